@@ -1,0 +1,4 @@
+pub mod Blocks
+pub mod Bases
+pub mod Roots
+pub mod Moves

@@ -1,0 +1,4 @@
+pub mod Pattern
+pub mod Region
+pub mod Made
+pub mod Rights

@@ -1,0 +1,99 @@
+-- What one instruction does, over a machine whose region 0 has one page, which may be read and executed.
+-- addi and ecall after the RISC-V unprivileged ISA; cincoffsetimm, after the CHERI ISA v9, is this project's own.
+use Rattle.std.specs.Prelude.{◌≡◌, ℕ, ◌+◌, ◌-◌, ◌^◌, ◌%◌, ◌==◌, ◌&&◌, Bool, nat_lt, nat_le, if◌then◌else◌, IsTrue, List, Result, Ok, Err}
+use Rattle.cap_format.specs.declared.TheConstants.{FIRST_REGION, PAGE_BYTES, EXECUTE}
+use Rattle.cap_format.specs.declared.cap.Cap.{Cap}
+use Rattle.cap_format.specs.Pattern.{address_of, kind_of}
+use Rattle.cap_format.specs.Rights.{allows, holds}
+use Rattle.cap_format.specs.Made.{from_int, with_address}
+use Rattle.cap_format.specs.Region.{IsInside}
+use Rattle.cheri_step.specs.declared.cause.Cause.{Cause}
+use Rattle.cheri_step.specs.declared.cause.Cause.TheVariants.{BadInstruction, CodeBounds, CodePage}
+use Rattle.cheri_step.specs.declared.first.FirstEnd.{FirstEnd}
+use Rattle.cheri_step.specs.declared.first.FirstEnd.TheVariants.{Next, Call, Fault}
+use Rattle.cheri_step.specs.Registers.{register, with_register, AreInside}
+use Rattle.cheri_step.specs.Words.{word_at, is_row, rd, rs1, immediate}
+
+-- how an instruction ends, and the registers and PCC after it
+pub record Effect : Type 0 where
+  pub end : FirstEnd
+  pub registers : List Cap
+  pub pcc : Cap
+
+-- a sum of integers wraps
+abbrev pub sum64 : ℕ → ℕ → ℕ
+sum64 a b = (a + b) % 2 ^ 64
+
+-- PCC at the next instruction
+abbrev pub next_pcc : Cap → Cap
+next_pcc pcc = with_address pcc (sum64 (address_of pcc.bits) 4)
+
+-- a call or a fault leaves the registers and PCC as they were
+abbrev pub ends : List Cap → Cap → FirstEnd → Effect
+ends registers pcc end = record { end = end; registers = registers; pcc = pcc }
+
+-- a result is put, and PCC goes on
+abbrev pub gives : List Cap → Cap → ℕ → Cap → Effect
+gives registers pcc n result = record { end = Next; registers = with_register registers n result; pcc = next_pcc pcc }
+
+-- the integer of a register, plus the immediate
+abbrev pub sum_of : List Cap → ℕ → ℕ
+sum_of registers word = sum64 (address_of (register registers (rs1 word)).bits) (immediate word)
+
+-- The rows of the table so far. Another word isn't an instruction.
+abbrev pub executed : List Cap → Cap → ℕ → Effect
+executed registers pcc word =
+    if word == 0x00000073 then ends registers pcc Call
+    else (if is_row word 0x13 0 then gives registers pcc (rd word) (from_int (sum_of registers word))
+    else (if is_row word 0x5b 1 then gives registers pcc (rd word) (with_address (register registers (rs1 word)) (sum_of registers word))
+    else ends registers pcc (Fault BadInstruction)))
+
+-- the address lies on page 0 of region 0
+abbrev pub is_on_page : ℕ → Bool
+is_on_page address = nat_le FIRST_REGION address && nat_lt address (FIRST_REGION + PAGE_BYTES)
+
+-- The fetch: the four bytes lie in the bounds of PCC, and then the page is there.
+abbrev pub fetched : Cap → List ℕ → Result ℕ Cause
+fetched pcc page =
+    let address = address_of pcc.bits in
+    if holds pcc.bits address 4
+    then (if is_on_page address then Ok (word_at page (address - FIRST_REGION)) else Err CodePage)
+    else Err CodeBounds
+
+abbrev pub effect_of : List Cap → Cap → Result ℕ Cause → Effect
+effect_of registers pcc (Ok word) = executed registers pcc word
+effect_of registers pcc (Err cause) = ends registers pcc (Fault cause)
+
+-- what the instruction at PCC does
+unfoldable pub first_effect : List Cap → Cap → List ℕ → Effect
+first_effect registers pcc page = effect_of registers pcc (fetched pcc page)
+
+-- an effect came about
+pub record HasEffect (effect : Effect) (end : FirstEnd) (registers : List Cap) (pcc : Cap) : Type 0 where
+  pub end_is : end ≡ effect.end
+  pub registers_are : registers ≡ effect.registers
+  pub pcc_is : pcc ≡ effect.pcc
+
+-- PCC is tagged and plain, may execute, and is at a multiple of four
+pub record IsCode (pcc : Cap) : Type 0 where
+  pub tagged : IsTrue pcc.tag
+  pub plain : kind_of pcc.bits ≡ 0
+  pub executes : IsTrue (allows pcc.bits EXECUTE)
+  pub aligned : address_of pcc.bits % 4 ≡ 0
+
+-- PCC is code, and PCC and each tagged register lie inside the region
+pub record IsSound (registers : List Cap) (pcc : Cap) (region : ℕ) : Type 0 where
+  pub code : IsCode pcc
+  pub pcc_inside : IsInside pcc.bits region
+  pub registers_inside : AreInside registers region
+
+-- the instruction at PCC was fetched
+pub record WasFetched (bits : ℕ) : Type 0 where
+  pub held : IsTrue (holds bits (address_of bits) 4)
+  pub on_page : IsTrue (is_on_page (address_of bits))
+
+-- What stands after an instruction that ended so: PCC is 4 bytes on, or the registers and PCC are as before.
+abbrev pub IsAfter : FirstEnd → List Cap → Cap → List Cap → Cap → Type 0
+IsAfter Next old_registers old_pcc registers pcc = WasFetched old_pcc.bits × (address_of pcc.bits ≡ address_of old_pcc.bits + 4)
+IsAfter Call old_registers old_pcc registers pcc = WasFetched old_pcc.bits × (registers ≡ old_registers) × (pcc ≡ old_pcc)
+IsAfter (Fault cause) old_registers old_pcc registers pcc = (registers ≡ old_registers) × (pcc ≡ old_pcc)

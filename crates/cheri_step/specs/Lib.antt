@@ -1,0 +1,4 @@
+pub mod Causes
+pub mod Registers
+pub mod Words
+pub mod Effect

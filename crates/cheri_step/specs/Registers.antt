@@ -1,0 +1,23 @@
+-- The register file: 32 capability registers, of which number 0 is always null.
+-- After the merged register file of the CHERI ISA v9 and the integer registers of the RISC-V unprivileged ISA.
+use Rattle.std.specs.Prelude.{◌≡◌, ℕ, ◌<◌, ◌==◌, if◌then◌else◌, IsTrue, List, length, slice_index_or, slice_set}
+use Rattle.cap_format.specs.declared.cap.Cap.{Cap}
+use Rattle.cap_format.specs.Made.{null}
+use Rattle.cap_format.specs.Region.{IsInside}
+
+-- the register of this number
+abbrev pub register : List Cap → ℕ → Cap
+register registers n = slice_index_or registers n null
+
+-- a capability is put into a register; register 0 stays null
+abbrev pub with_register : List Cap → ℕ → Cap → List Cap
+with_register registers n cap = if n == 0 then registers else slice_set registers n cap
+
+-- there are 32 registers, and number 0 is null
+pub record IsRegisterFile (registers : List Cap) : Type 0 where
+  pub length_is : length registers ≡ 32
+  pub zero : register registers 0 ≡ null
+
+-- each tagged register lies inside the region
+abbrev pub AreInside : List Cap → ℕ → Type 0
+AreInside registers region = (n : ℕ) → n < 32 → IsTrue (register registers n).tag → IsInside (register registers n).bits region

@@ -1,0 +1,5 @@
+pub mod ReadLemmas
+pub mod TextLemmas
+pub mod PartLemmas
+pub mod AnswerLemmas
+pub mod WriteLemmas

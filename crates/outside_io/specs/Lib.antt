@@ -1,0 +1,6 @@
+pub mod Faults
+pub mod States
+pub mod Contents
+pub mod Memory
+pub mod Parts
+pub mod Answers

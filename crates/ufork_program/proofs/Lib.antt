@@ -1,0 +1,7 @@
+pub mod Digits
+pub mod RunLemmas
+pub mod CallLemmas
+pub mod StepLemmas
+pub mod PageLemmas
+pub mod ReadyLemmas
+pub mod HeadlineLemmas

@@ -1,0 +1,9 @@
+pub mod Lines
+pub mod Page
+pub mod Machine
+pub mod Calls
+pub mod Steps
+pub mod Run
+pub mod Answer
+pub mod Ready
+pub mod Headline

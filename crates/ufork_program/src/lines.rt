@@ -1,0 +1,106 @@
+// Lines, made on the stack.
+ghost use Rattle.std.specs.Prelude.{◌≡◌, ◌+◌, ◌≤◌, ◌^◌, ◌<◌, ◌++◌, codes, length, decimal};
+ghost use Rattle.outside_io.specs.States.{PrintsText};
+ghost use Rattle.ufork_program.specs.Lines.{exit_line, done_line, cannot_read_line};
+
+use itoa::write_digits;
+use outside_io::{Failed, Sink};
+use std::marker::Model;
+
+/// The most bytes of a line.
+const ROOM: usize = 64;
+
+/// A line that is put together from its end, in a buffer that it fills from its end.
+#[derive(Drop)]
+struct Line {
+    bytes: [u8; ROOM],
+    start: usize,
+}
+
+impl Model for Line {
+    ghost use Rattle.std.specs.Prelude.{List, ℕ, drop, ◌≤◌};
+
+    ghost Value = { List ℕ };
+
+    ghost view = { λ line. drop line.start line.bytes };
+
+    ghost invariant = { λ line. line.start ≤ 64 };
+}
+
+impl Line {
+    ghost use Rattle.std.specs.Prelude.{[]};
+
+    fn new() -> Line
+        ensures { result ≡ [] }
+    {
+        Line {
+            bytes: [0; ROOM],
+            start: ROOM,
+        }
+    }
+
+    // Puts a text before what is there.
+    fn put(&mut self, text: &[u8])
+        requires { length text.now + length self.old ≤ 64 }
+        ensures { self.new ≡ text.now ++ self.old }
+    {
+        let start = self.start - text.len();
+        self.bytes[start..self.start].copy_from_slice(text);
+        self.start = start;
+    }
+
+    // Puts a number before what is there, in at most 20 digits.
+    fn put_number(&mut self, n: u64)
+        requires { 20 + length self.old ≤ 64 }
+        ensures text { self.new ≡ decimal n ++ self.old }
+        ensures room { length self.new ≤ 20 + length self.old }
+    {
+        self.start = write_digits(n, &mut self.bytes, self.start);
+    }
+
+    fn text(&self) -> &[u8]
+        ensures { result.now ≡ self.now }
+    {
+        &self.bytes[self.start..]
+    }
+}
+
+/// Writes `exit ID STATUS`, by one write.
+pub fn write_exit<E: Sink>(id: u64, status: u64, err: &mut E) -> Result<(), Failed>
+    ensures { PrintsText (exit_line id status) (E.state err.old) (E.state err.new) result }
+{
+    let mut line = Line::new();
+    line.put(b"\n");
+    line.put_number(status);
+    line.put(b" ");
+    line.put_number(id);
+    line.put(b"exit ");
+    err.write(line.text())
+}
+
+/// Writes `done STEPS`, by one write.
+pub fn write_done<E: Sink>(steps: u64, err: &mut E) -> Result<(), Failed>
+    ensures { PrintsText (done_line steps) (E.state err.old) (E.state err.new) result }
+{
+    let mut line = Line::new();
+    line.put(b"\n");
+    line.put_number(steps);
+    line.put(b"done ");
+    err.write(line.text())
+}
+
+// Writes the name and the end of its line.
+fn write_name<E: Sink>(name: &str, err: &mut E) -> Result<(), Failed>
+    ensures { PrintsText (name.now ++ codes "\n") (E.state err.old) (E.state err.new) result }
+{
+    err.write(name.as_bytes())?;
+    err.write(b"\n")
+}
+
+/// Writes `ufork: cannot read NAME`, the name as it stands, by three writes.
+pub fn write_cannot_read<E: Sink>(name: &str, err: &mut E) -> Result<(), Failed>
+    ensures { PrintsText (cannot_read_line name.now) (E.state err.old) (E.state err.new) result }
+{
+    err.write(b"ufork: cannot read ")?;
+    write_name(name, err)
+}
