@@ -7,11 +7,11 @@ use Rattle.cap_format.specs.Pattern.{address_of, kind_of}
 use Rattle.cap_format.specs.Rights.{allows, holds}
 use Rattle.cap_format.specs.Made.{from_int, with_address}
 use Rattle.cap_format.specs.Region.{IsInside}
-use Rattle.cheri_step.specs.declared.cause.Cause.{Cause}
-use Rattle.cheri_step.specs.declared.cause.Cause.TheVariants.{BadInstruction, CodeBounds, CodePage}
+use Rattle.machine_types.specs.declared.cause.Cause.{Cause}
+use Rattle.machine_types.specs.declared.cause.Cause.TheVariants.{BadInstruction, CodeBounds, CodePage}
 use Rattle.cheri_step.specs.declared.first.FirstEnd.{FirstEnd}
 use Rattle.cheri_step.specs.declared.first.FirstEnd.TheVariants.{Next, Call, Fault}
-use Rattle.cheri_step.specs.Registers.{register, with_register, AreInside}
+use Rattle.machine_types.specs.Registers.{register, with_register, AreInside}
 use Rattle.cheri_step.specs.Words.{word_at, is_row, rd, rs1, immediate}
 
 -- how an instruction ends, and the registers and PCC after it

@@ -1,4 +1,2 @@
-pub mod Causes
-pub mod Registers
 pub mod Words
 pub mod Effect

@@ -6,8 +6,8 @@ ghost use Rattle.cap_format.specs.Region.{IsInside};
 ghost use Rattle.cheri_step.specs.Words.{is_row, rd, rs1, immediate};
 ghost use Rattle.cheri_step.specs.Effect.{first_effect, fetched, executed, gives, next_pcc, IsCode, IsSound, WasFetched, HasEffect, IsAfter};
 
-use crate::{Cause, Regs};
 use cap_format::{Cap, FIRST_REGION, PAGE_BYTES};
+use machine_types::{Cause, Regs};
 
 /// How an instruction ended.
 #[derive(Clone, Copy, Debug, PartialEq, Eq)]

@@ -3,10 +3,6 @@
 //! So far it steps over a plain page, with the rows addi, cincoffsetimm and ecall.
 #![tactic(auto)]
 
-mod cause;
 mod first;
-mod registers;
 
-pub use cause::Cause;
 pub use first::{FirstEnd, next_pcc, step_first};
-pub use registers::Regs;

@@ -4,7 +4,7 @@ use Rattle.cap_format.specs.declared.TheConstants.{FIRST_REGION, PAGE_BYTES, LOA
 use Rattle.cap_format.specs.declared.cap.Cap.{Cap}
 use Rattle.cap_format.specs.Pattern.{address_of, kind_of}
 use Rattle.cap_format.specs.Rights.{allows, holds}
-use Rattle.cheri_step.specs.Registers.{register}
+use Rattle.machine_types.specs.Registers.{register}
 use Rattle.ufork_program.specs.declared.calls.Called.{Called}
 use Rattle.ufork_program.specs.declared.calls.Called.TheVariants.{Answered, Exited}
 use Rattle.ufork_program.specs.declared.calls.TheConstants.{EXIT, WRITE, CONSOLE_OUTPUT, EBADF, EFAULT, ENOSYS}

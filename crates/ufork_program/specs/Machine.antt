@@ -4,7 +4,7 @@ use Rattle.cap_format.specs.declared.TheConstants.{FIRST_REGION, PAGE_BYTES}
 use Rattle.cap_format.specs.declared.cap.Cap.{Cap}
 use Rattle.cap_format.specs.Pattern.{address_of}
 use Rattle.cap_format.specs.Made.{null, root}
-use Rattle.cheri_step.specs.Registers.{with_register}
+use Rattle.machine_types.specs.Registers.{with_register}
 use Rattle.cheri_step.specs.Effect.{IsSound}
 use Rattle.ufork_program.specs.declared.TheConstants.{CODE_PERMISSIONS, DATA_PERMISSIONS}
 

@@ -6,8 +6,8 @@ use Rattle.cap_format.specs.declared.TheConstants.{PAGE_BYTES}
 use Rattle.cap_format.specs.Made.{from_int}
 use Rattle.cheri_step.specs.declared.first.FirstEnd.{FirstEnd}
 use Rattle.cheri_step.specs.declared.first.FirstEnd.TheVariants.{Next, Call, Fault}
-use Rattle.cheri_step.specs.Causes.{cause_number}
-use Rattle.cheri_step.specs.Registers.{with_register}
+use Rattle.machine_types.specs.Causes.{cause_number}
+use Rattle.machine_types.specs.Registers.{with_register}
 use Rattle.cheri_step.specs.Effect.{Effect, first_effect, next_pcc}
 use Rattle.ufork_program.specs.Lines.{exit_line}
 use Rattle.ufork_program.specs.Machine.{Machine}

@@ -3,7 +3,7 @@ ghost use Rattle.std.specs.Prelude.{◌≡◌, ◌<◌, ◌+◌, ◌&&◌, nat_l
 ghost use Rattle.ufork_program.specs.Calls.{is_readable, refuses, written, call_effect, effect_of, IsOnPage};
 
 use cap_format::{Cap, FIRST_REGION, LOAD, PAGE_BYTES};
-use cheri_step::Regs;
+use machine_types::Regs;
 
 /// The numbers of the calls.
 const EXIT: u64 = 1;

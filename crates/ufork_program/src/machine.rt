@@ -5,7 +5,8 @@ ghost use Rattle.ufork_program.specs.Page.{page_of};
 use crate::calls::{Called, call};
 use crate::{CODE_PERMISSIONS, DATA_PERMISSIONS, MOST_STEPS};
 use cap_format::{Cap, PAGE_BYTES};
-use cheri_step::{FirstEnd, Regs, next_pcc, step_first};
+use cheri_step::{FirstEnd, next_pcc, step_first};
+use machine_types::Regs;
 use elf_loader::{FIRST_IMAGE_BYTES, HEADER_BYTES};
 use std::marker::Model;
 

@@ -4,7 +4,7 @@ use Rattle.std.proofs.lemmas.Bool.{cases_lt}
 use Rattle.std.proofs.lemmas.List.{get_or-replicate, get_or_past}
 use Rattle.std.proofs.lemmas.Grind.{common_steps}
 use Rattle.cap_format.specs.Made.{null}
-use Rattle.cheri_step.specs.Registers.{register, AreInside}
+use Rattle.machine_types.specs.Registers.{register, AreInside}
 
 -- each of them is null
 pub register-null : (count n : ℕ) → register (replicate count null) n ≡ null

@@ -13,7 +13,7 @@ pub struct Regs {
 impl Model for Regs {
     ghost use Rattle.std.specs.Prelude.{List};
     ghost use Rattle.cap_format.specs.declared.cap.Cap.{Cap};
-    ghost use Rattle.cheri_step.specs.Registers.{IsRegisterFile};
+    ghost use Rattle.machine_types.specs.Registers.{IsRegisterFile};
 
     ghost Value = { List Cap };
 
@@ -24,7 +24,7 @@ impl Model for Regs {
 
 impl Regs {
     ghost use Rattle.cap_format.specs.Made.{null};
-    ghost use Rattle.cheri_step.specs.Registers.{register, with_register, IsRegisterFile, AreInside};
+    ghost use Rattle.machine_types.specs.Registers.{register, with_register, IsRegisterFile, AreInside};
     ghost use Rattle.cap_format.specs.Region.{IsInside};
 
     /// All registers are null.

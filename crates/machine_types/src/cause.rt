@@ -1,6 +1,6 @@
 // Why a process is killed.
 ghost use Rattle.std.specs.Prelude.{◌≡◌};
-ghost use Rattle.cheri_step.specs.Causes.{cause_number};
+ghost use Rattle.machine_types.specs.Causes.{cause_number};
 
 /// Why a process is killed. The causes and their order are this project's own.
 #[derive(Clone, Copy, Debug, PartialEq, Eq)]

@@ -1,7 +1,7 @@
 -- The numbers of the causes.
 use Rattle.std.specs.Prelude.{ℕ}
-use Rattle.cheri_step.specs.declared.cause.Cause.{Cause}
-use Rattle.cheri_step.specs.declared.cause.Cause.TheVariants.{Tag, Sealed, Permission, Bounds, Misaligned, NoPage, NoRight, BadInstruction, Breakpoint, CodeBounds, CodePage, NoFrame}
+use Rattle.machine_types.specs.declared.cause.Cause.{Cause}
+use Rattle.machine_types.specs.declared.cause.Cause.TheVariants.{Tag, Sealed, Permission, Bounds, Misaligned, NoPage, NoRight, BadInstruction, Breakpoint, CodeBounds, CodePage, NoFrame}
 
 abbrev pub cause_number : Cause → ℕ
 cause_number Tag = 1
