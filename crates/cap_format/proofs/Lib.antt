@@ -2,3 +2,12 @@ pub mod Blocks
 pub mod Bases
 pub mod Roots
 pub mod Moves
+pub mod Rounding
+pub mod Exponents
+pub mod Ends
+pub mod Patterns
+pub mod NewBases
+pub mod Within
+pub mod Sealed
+pub mod MovedFields
+pub mod RegionMoves

@@ -1,9 +1,10 @@
 // Capabilities.
-ghost use Rattle.std.specs.Prelude.{◌≡◌, ◌<◌, ◌≤◌, ◌^◌, ◌+◌, ◌*◌, ◌%◌, ◌↔◌, IsTrue, bit_and, pos, ◌≤ℤ◌, ◌+ℤ◌};
+ghost use Rattle.std.specs.Prelude.{◌≡◌, ◌<◌, ◌≤◌, ◌^◌, ◌+◌, ◌*◌, ◌/◌, ◌%◌, ◌==◌, ◌&&◌, ◌↔◌, IsTrue, bit_and, pos, ◌≤ℤ◌, ◌+ℤ◌, ◌-◌};
 ghost use Rattle.cap_format.specs.Pattern.{address_of, meta_of, perms_of, kind_of, internal_of, top_field_of, bottom_field_of, exponent_of, top_mantissa_of, bottom_mantissa_of, length_mantissa_of, length_of, base_of, top_of, IsBase};
 
 use crate::bounds::{corrected_base, span};
-use crate::{ALL_PERMISSIONS, FIRST_REGION, MOST_REGIONS, REGION_BYTES};
+use crate::set_bounds::new_bounds;
+use crate::{ALL_PERMISSIONS, EXECUTE, FIRST_REGION, MOST_REGIONS, REGION_BYTES};
 
 /// A capability: 128 bits, and the tag that memory and registers keep out of band.
 ///
@@ -15,9 +16,21 @@ pub struct Cap {
     pub tag: bool,
 }
 
+/// What setting bounds gives.
+#[derive(Clone, Copy, Debug, PartialEq, Eq)]
+pub struct Bounded {
+    /// The capability with the bounds.
+    pub cap: Cap,
+    /// Whether the bounds are just the bytes that were asked for: no end was rounded.
+    pub exact: bool,
+}
+
 impl Cap {
     ghost use Rattle.cap_format.specs.Made.{null, from_int, root, with_address};
-    ghost use Rattle.cap_format.specs.Region.{region_start};
+    ghost use Rattle.cap_format.specs.Region.{region_start, IsInside};
+    ghost use Rattle.cap_format.specs.SetBounds.{set_bounds, bounded_base, bounded_top};
+    ghost use Rattle.cap_format.specs.Sealing.{with_perms_bits, with_kind_bits, and_perms, seal_entry, unseal_entry};
+    ghost use Rattle.cap_format.specs.Moves.{moved, distance, IsMove};
     ghost use Rattle.cap_format.specs.Rights.{allows, holds};
 
     /// The null capability: all bits are zero, and there is no tag.
@@ -226,6 +239,182 @@ impl Cap {
     {
         let start = i128::from(address);
         self.base() <= start && start + i128::from(size) <= self.top()
+    }
+
+    /// Fewer permissions: those that the mask has too. No other bit changes.
+    ///
+    /// The tag is kept exactly where it was set and the kind is 0.
+    pub fn and_perms(self, mask: u16) -> Cap
+        ensures is { result ≡ and_perms self mask }
+        ensures perms { perms_of result.bits ≡ bit_and (perms_of self.bits) mask }
+        ensures address { address_of result.bits ≡ address_of self.bits }
+        ensures base { base_of result.bits ≡ base_of self.bits }
+        ensures top { top_of result.bits ≡ top_of self.bits }
+        ensures kind { kind_of result.bits ≡ kind_of self.bits }
+    {
+        Cap {
+            bits: self.with_perms(self.perms() & mask),
+            tag: self.is_tagged_plain(),
+        }
+    }
+
+    /// A sealed entry: the kind is 1. No other bit changes.
+    ///
+    /// The tag is kept exactly where it was set, the kind was 0, and it may execute.
+    pub fn seal_entry(self) -> Cap
+        ensures is { result ≡ seal_entry self }
+        ensures kind { kind_of result.bits ≡ 1 }
+        ensures perms { perms_of result.bits ≡ perms_of self.bits }
+        ensures address { address_of result.bits ≡ address_of self.bits }
+        ensures base { base_of result.bits ≡ base_of self.bits }
+        ensures top { top_of result.bits ≡ top_of self.bits }
+    {
+        Cap {
+            bits: self.with_kind(1),
+            tag: self.may_be_entry(),
+        }
+    }
+
+    /// The plain capability of a sealed entry: the kind is 0. No other bit changes, nor does the tag.
+    pub fn unseal_entry(self) -> Cap
+        requires { kind_of self.bits ≡ 1 }
+        ensures is { result ≡ unseal_entry self }
+        ensures kind { kind_of result.bits ≡ 0 }
+        ensures perms { perms_of result.bits ≡ perms_of self.bits }
+        ensures address { address_of result.bits ≡ address_of self.bits }
+        ensures base { base_of result.bits ≡ base_of self.bits }
+        ensures top { top_of result.bits ≡ top_of self.bits }
+    {
+        Cap {
+            bits: self.with_kind(0),
+            tag: self.tag,
+        }
+    }
+
+    /// Bounds of `n` bytes from the address on, rounded outwards where they can't be had exactly.
+    ///
+    /// The tag is kept exactly where it was set, the kind is 0, and the bytes lie within the old bounds. Then
+    /// the new bounds lie within the old ones too.
+    pub fn set_bounds(self, n: u64) -> Bounded
+        ensures is { result ≡ set_bounds self n }
+        ensures address { address_of result.cap.bits ≡ address_of self.bits }
+        ensures base { base_of result.cap.bits ≡ pos (bounded_base (address_of self.bits) n) }
+        ensures top { top_of result.cap.bits ≡ pos (bounded_top (address_of self.bits) n) }
+        ensures exact { IsTrue result.exact ↔ ((base_of result.cap.bits ≡ pos (address_of self.bits)) × (top_of result.cap.bits ≡ pos (address_of self.bits + n))) }
+        ensures within { IsTrue result.cap.tag → (base_of self.bits ≤ℤ base_of result.cap.bits) × (top_of result.cap.bits ≤ℤ top_of self.bits) }
+    {
+        let address = self.address();
+        let bounds = new_bounds(address, n);
+        Bounded {
+            cap: Cap {
+                bits: self.with_bounds(bounds.bits),
+                tag: self.may_have_bounds(address, n),
+            },
+            exact: bounds.are_just(address, n),
+        }
+    }
+
+    /// Whether the base and the top lie from the start to the end of a region, both counted.
+    pub fn inside(self, region: u32) -> bool
+        ensures { IsTrue result ↔ IsInside self.bits region }
+    {
+        let start = FIRST_REGION + u64::from(region) * REGION_BYTES;
+        i128::from(start) <= self.base() && self.top() <= i128::from(start + REGION_BYTES)
+    }
+
+    /// The capability in another region: the same but for its address and its bounds, which lie the distance of
+    /// the regions further on. An untagged one stays as it is.
+    ///
+    /// Both regions are below [`MOST_REGIONS`], and a tagged capability is inside `from`.
+    pub fn moved(self, from: u32, to: u32) -> Cap
+        requires from { from < MOST_REGIONS }
+        requires to { to < MOST_REGIONS }
+        requires inside { IsTrue self.tag → IsInside self.bits from }
+        ensures is { result ≡ moved self from to }
+        ensures tag { result.tag ≡ self.tag }
+        ensures moves { IsTrue self.tag → IsMove self.bits (distance from to) result.bits }
+        ensures inside { IsTrue result.tag → IsInside result.bits to }
+    {
+        if self.tag {
+            Cap {
+                bits: joined(self.moved_meta(from, to), self.moved_address(from, to)),
+                tag: true,
+            }
+        } else {
+            self
+        }
+    }
+
+    // Whether it is tagged and plain.
+    fn is_tagged_plain(self) -> bool
+        ensures { result ≡ (self.tag && (kind_of self.bits == 0)) }
+    {
+        self.tag && self.kind() == 0
+    }
+
+    // Whether an entry of it is tagged: it is tagged, plain and may execute.
+    fn may_be_entry(self) -> bool
+        ensures { result ≡ (self.tag && ((kind_of self.bits == 0) && allows self.bits EXECUTE)) }
+    {
+        self.is_tagged_plain() && self.allows(EXECUTE)
+    }
+
+    // Whether new bounds for these bytes are tagged: it is tagged, plain and holds them.
+    fn may_have_bounds(self, address: u64, size: u64) -> bool
+        ensures { result ≡ (self.tag && ((kind_of self.bits == 0) && holds self.bits address size)) }
+    {
+        self.is_tagged_plain() && self.holds(address, size)
+    }
+
+    // The bits with other permissions.
+    fn with_perms(self, perms: u16) -> u128
+        ensures bits { result ≡ with_perms_bits self.bits perms }
+        ensures base { base_of result ≡ base_of self.bits }
+        ensures top { top_of result ≡ top_of self.bits }
+    {
+        u128::from(perms) << 112 | self.bits % (1 << 112)
+    }
+
+    // The bits with another kind.
+    fn with_kind(self, kind: u32) -> u128
+        requires { kind < 2 ^ 18 }
+        ensures bits { result ≡ with_kind_bits self.bits kind }
+        ensures base { base_of result ≡ base_of self.bits }
+        ensures top { top_of result ≡ top_of self.bits }
+    {
+        self.bits >> 109 << 109 | u128::from(kind) << 91 | self.bits % (1 << 91)
+    }
+
+    // The bits with other bounds: IE, T and B, as they stand.
+    fn with_bounds(self, bounds: u64) -> u128
+        requires { bounds < 2 ^ 27 }
+        ensures { result ≡ (meta_of self.bits / 2 ^ 27 * 2 ^ 27 + bounds) * 2 ^ 64 + address_of self.bits }
+    {
+        joined(self.meta() >> 27 << 27 | bounds, self.address())
+    }
+
+    // The address in another region.
+    fn moved_address(self, from: u32, to: u32) -> u64
+        requires from { from < MOST_REGIONS }
+        requires to { to < MOST_REGIONS }
+        requires inside { IsInside self.bits from }
+        ensures { result + from * REGION_BYTES ≡ address_of self.bits + to * REGION_BYTES }
+    {
+        self.address() + u64::from(to) * REGION_BYTES - u64::from(from) * REGION_BYTES
+    }
+
+    // The meta half in another region: only B differs, by the distance in units of 2 to the exponent.
+    //
+    // With 64 regions more the distance is never negative. They are 0 modulo 2^14 units.
+    fn moved_meta(self, from: u32, to: u32) -> u64
+        requires from { from < MOST_REGIONS }
+        requires to { to < MOST_REGIONS }
+        ensures { result ≡ meta_of self.bits - bottom_field_of self.bits
+            + (bottom_field_of self.bits + (to + MOST_REGIONS - from) * (REGION_BYTES / 2 ^ exponent_of self.bits)) % 2 ^ 14 }
+    {
+        let distance = u64::from(to + MOST_REGIONS - from) * (REGION_BYTES >> self.exponent());
+        let bottom = u64::from(self.bottom_field());
+        self.meta() - bottom + (bottom + distance) % (1 << 14)
     }
 
     // Whether the base and the top are those of the other.

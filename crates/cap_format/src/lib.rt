@@ -7,11 +7,17 @@
 mod bounds;
 mod cap;
 mod laws;
+mod lengths;
+mod set_bounds;
 #[cfg(test)]
 mod tests;
 
-pub use cap::Cap;
-pub use laws::{each_has_one_base, keeps_bounds_within};
+pub use cap::{Bounded, Cap};
+pub use laws::{
+    each_has_least_exponent, each_has_one_base, each_move_is_one, keeps_bounds_within,
+    moves_go_inside, moves_to_itself_are_none, two_moves_are_one,
+};
+pub use lengths::{align_mask, rounded_length};
 
 /// The first address of region 0, in bytes.
 pub const FIRST_REGION: u64 = 0x1_0000_0000;
@@ -19,8 +25,26 @@ pub const FIRST_REGION: u64 = 0x1_0000_0000;
 /// The size of a region, in bytes.
 pub const REGION_BYTES: u64 = 0x10_0000;
 
+/// The pages of a region.
+pub const REGION_PAGES: u32 = 256;
+
 /// The size of a page, in bytes.
 pub const PAGE_BYTES: usize = 4096;
+
+/// The granules of a page.
+pub const PAGE_GRANULES: usize = 256;
+
+/// The size of a granule, which has one tag, in bytes.
+pub const GRANULE_BYTES: usize = 16;
+
+/// The most frames of a machine.
+pub const MOST_FRAMES: u32 = 4096;
+
+/// The most bytes of an image file.
+pub const IMAGE_BYTES: usize = 4_194_304;
+
+/// The most bytes of an image's table of relocations.
+pub const TABLE_BYTES: u64 = 2_621_440;
 
 /// The number of regions.
 pub const MOST_REGIONS: u32 = 64;
