@@ -178,8 +178,8 @@ impl Cap {
         }
     }
 
-    // The length, in bytes.
-    fn length(self) -> u128
+    /// The length of the bounds, in bytes. It is below `2^76`.
+    pub fn length(self) -> u128
         ensures length { result ≡ length_of self.bits }
         ensures small { result < 2 ^ 76 }
     {
@@ -246,6 +246,7 @@ impl Cap {
     /// The tag is kept exactly where it was set and the kind is 0.
     pub fn and_perms(self, mask: u16) -> Cap
         ensures is { result ≡ and_perms self mask }
+        ensures tag { IsTrue result.tag ↔ (IsTrue self.tag × (kind_of self.bits ≡ 0)) }
         ensures perms { perms_of result.bits ≡ bit_and (perms_of self.bits) mask }
         ensures address { address_of result.bits ≡ address_of self.bits }
         ensures base { base_of result.bits ≡ base_of self.bits }
@@ -263,6 +264,7 @@ impl Cap {
     /// The tag is kept exactly where it was set, the kind was 0, and it may execute.
     pub fn seal_entry(self) -> Cap
         ensures is { result ≡ seal_entry self }
+        ensures tag { IsTrue result.tag ↔ (IsTrue self.tag × (kind_of self.bits ≡ 0) × IsTrue (allows self.bits EXECUTE)) }
         ensures kind { kind_of result.bits ≡ 1 }
         ensures perms { perms_of result.bits ≡ perms_of self.bits }
         ensures address { address_of result.bits ≡ address_of self.bits }
@@ -279,6 +281,7 @@ impl Cap {
     pub fn unseal_entry(self) -> Cap
         requires { kind_of self.bits ≡ 1 }
         ensures is { result ≡ unseal_entry self }
+        ensures tag { result.tag ≡ self.tag }
         ensures kind { kind_of result.bits ≡ 0 }
         ensures perms { perms_of result.bits ≡ perms_of self.bits }
         ensures address { address_of result.bits ≡ address_of self.bits }
@@ -297,6 +300,7 @@ impl Cap {
     /// the new bounds lie within the old ones too.
     pub fn set_bounds(self, n: u64) -> Bounded
         ensures is { result ≡ set_bounds self n }
+        ensures tag { IsTrue result.cap.tag ↔ (IsTrue self.tag × (kind_of self.bits ≡ 0) × IsTrue (holds self.bits (address_of self.bits) n)) }
         ensures address { address_of result.cap.bits ≡ address_of self.bits }
         ensures base { base_of result.cap.bits ≡ pos (bounded_base (address_of self.bits) n) }
         ensures top { top_of result.cap.bits ≡ pos (bounded_top (address_of self.bits) n) }

@@ -1,28 +1,29 @@
 -- What one instruction does, over a machine whose region 0 has one page, which may be read and executed.
--- addi and ecall after the RISC-V unprivileged ISA; cincoffsetimm, after the CHERI ISA v9, is this project's own.
-use Rattle.std.specs.Prelude.{◌≡◌, ℕ, ◌+◌, ◌-◌, ◌^◌, ◌%◌, ◌==◌, ◌&&◌, Bool, nat_lt, nat_le, if◌then◌else◌, IsTrue, List, Result, Ok, Err}
+-- The order of the tests is this project's own.
+use Rattle.std.specs.Prelude.{◌≡◌, ℕ, ◌+◌, ◌-◌, ◌%◌, ◌&&◌, Bool, nat_lt, nat_le, if◌then◌else◌, IsTrue, List, Result, Ok, Err, Some, None}
+use Rattle.std.specs.declared.option.Option.{Option}
 use Rattle.cap_format.specs.declared.TheConstants.{FIRST_REGION, PAGE_BYTES, EXECUTE}
 use Rattle.cap_format.specs.declared.cap.Cap.{Cap}
 use Rattle.cap_format.specs.Pattern.{address_of, kind_of}
 use Rattle.cap_format.specs.Rights.{allows, holds}
-use Rattle.cap_format.specs.Made.{from_int, with_address}
+use Rattle.cap_format.specs.Made.{with_address}
 use Rattle.cap_format.specs.Region.{IsInside}
 use Rattle.machine_types.specs.declared.cause.Cause.{Cause}
-use Rattle.machine_types.specs.declared.cause.Cause.TheVariants.{BadInstruction, CodeBounds, CodePage}
+use Rattle.machine_types.specs.declared.cause.Cause.TheVariants.{BadInstruction, Breakpoint, CodeBounds, CodePage}
 use Rattle.cheri_step.specs.declared.first.FirstEnd.{FirstEnd}
 use Rattle.cheri_step.specs.declared.first.FirstEnd.TheVariants.{Next, Call, Fault}
 use Rattle.machine_types.specs.Registers.{register, with_register, AreInside}
-use Rattle.cheri_step.specs.Words.{word_at, is_row, rd, rs1, immediate}
+use Rattle.riscv_decode.specs.declared.instr.Instr.{Instr}
+use Rattle.riscv_decode.specs.declared.instr.Instr.TheVariants.{Reg, Imm, Load, Store, Branch, Upper, Jal, Jalr, One, Ecall, Ebreak, Fence}
+use Rattle.riscv_decode.specs.Decoded.{decoded}
+use Rattle.cheri_step.specs.Words.{word_at}
+use Rattle.cheri_step.specs.Results.{sum64, reg_result, imm_result, upper_result, one_result}
 
 -- how an instruction ends, and the registers and PCC after it
 pub record Effect : Type 0 where
   pub end : FirstEnd
   pub registers : List Cap
   pub pcc : Cap
-
--- a sum of integers wraps
-abbrev pub sum64 : ℕ → ℕ → ℕ
-sum64 a b = (a + b) % 2 ^ 64
 
 -- PCC at the next instruction
 abbrev pub next_pcc : Cap → Cap
@@ -36,17 +37,30 @@ ends registers pcc end = record { end = end; registers = registers; pcc = pcc }
 abbrev pub gives : List Cap → Cap → ℕ → Cap → Effect
 gives registers pcc n result = record { end = Next; registers = with_register registers n result; pcc = next_pcc pcc }
 
--- the integer of a register, plus the immediate
-abbrev pub sum_of : List Cap → ℕ → ℕ
-sum_of registers word = sum64 (address_of (register registers (rs1 word)).bits) (immediate word)
+-- a result is put, where the row is built
+abbrev pub gives_if : List Cap → Cap → ℕ → Option Cap → Effect
+gives_if registers pcc n None = ends registers pcc (Fault BadInstruction)
+gives_if registers pcc n (Some result) = gives registers pcc n result
 
--- The rows of the table so far. Another word isn't an instruction.
-abbrev pub executed : List Cap → Cap → ℕ → Effect
-executed registers pcc word =
-    if word == 0x00000073 then ends registers pcc Call
-    else (if is_row word 0x13 0 then gives registers pcc (rd word) (from_int (sum_of registers word))
-    else (if is_row word 0x5b 1 then gives registers pcc (rd word) (with_address (register registers (rs1 word)) (sum_of registers word))
-    else ends registers pcc (Fault BadInstruction)))
+-- An instruction by its row. A row that isn't built ends as a word that is none.
+abbrev pub performed : List Cap → Cap → Instr → Effect
+performed registers pcc (Reg op d s t) = gives_if registers pcc d (reg_result op (register registers s) (register registers t))
+performed registers pcc (Imm op d s i) = gives_if registers pcc d (imm_result op (register registers s) i)
+performed registers pcc (Upper op d i) = gives_if registers pcc d (upper_result op pcc i)
+performed registers pcc (One op d s) = gives registers pcc d (one_result op (register registers s))
+performed registers pcc Ecall = ends registers pcc Call
+performed registers pcc Ebreak = ends registers pcc (Fault Breakpoint)
+performed registers pcc Fence = record { end = Next; registers = registers; pcc = next_pcc pcc }
+performed registers pcc (Load op d s i) = ends registers pcc (Fault BadInstruction)
+performed registers pcc (Store op s t i) = ends registers pcc (Fault BadInstruction)
+performed registers pcc (Branch op s t i) = ends registers pcc (Fault BadInstruction)
+performed registers pcc (Jal d i) = ends registers pcc (Fault BadInstruction)
+performed registers pcc (Jalr d s i) = ends registers pcc (Fault BadInstruction)
+
+-- a word without a row is no instruction
+abbrev pub executed : List Cap → Cap → Option Instr → Effect
+executed registers pcc None = ends registers pcc (Fault BadInstruction)
+executed registers pcc (Some instr) = performed registers pcc instr
 
 -- the address lies on page 0 of region 0
 abbrev pub is_on_page : ℕ → Bool
@@ -61,7 +75,7 @@ fetched pcc page =
     else Err CodeBounds
 
 abbrev pub effect_of : List Cap → Cap → Result ℕ Cause → Effect
-effect_of registers pcc (Ok word) = executed registers pcc word
+effect_of registers pcc (Ok word) = executed registers pcc (decoded word)
 effect_of registers pcc (Err cause) = ends registers pcc (Fault cause)
 
 -- what the instruction at PCC does

@@ -1,2 +1,3 @@
 pub mod Words
+pub mod Results
 pub mod Effect

@@ -3,11 +3,15 @@ ghost use Rattle.std.specs.Prelude.{◌≡◌, ◌<◌, ◌^◌, ◌-◌, ◌+�
 ghost use Rattle.cap_format.specs.Pattern.{address_of};
 ghost use Rattle.cap_format.specs.Rights.{holds};
 ghost use Rattle.cap_format.specs.Region.{IsInside};
-ghost use Rattle.cheri_step.specs.Words.{is_row, rd, rs1, immediate};
-ghost use Rattle.cheri_step.specs.Effect.{first_effect, fetched, executed, gives, next_pcc, IsCode, IsSound, WasFetched, HasEffect, IsAfter};
+ghost use Rattle.std.specs.Option.{ForSome};
+ghost use Rattle.riscv_decode.specs.Table.{IsInRange};
+ghost use Rattle.riscv_decode.specs.Decoded.{decoded};
+ghost use Rattle.cheri_step.specs.Effect.{first_effect, fetched, executed, performed, gives, gives_if, next_pcc, IsCode, IsSound, WasFetched, HasEffect, IsAfter};
 
+use crate::results::{imm_result, one_result, reg_result, upper_result};
 use cap_format::{Cap, FIRST_REGION, PAGE_BYTES};
 use machine_types::{Cause, Regs};
+use riscv_decode::{Instr, decode};
 
 /// How an instruction ended.
 #[derive(Clone, Copy, Debug, PartialEq, Eq)]
@@ -19,18 +23,6 @@ pub enum FirstEnd {
     /// The process is killed. Registers and PCC are as before.
     Fault(Cause),
 }
-
-const ECALL: u32 = 0x0000_0073;
-
-/// The opcode of addi, and its funct3.
-const OP_IMM: u32 = 0x13;
-
-const ADDI: u32 = 0;
-
-/// The opcode of cincoffsetimm, and its funct3.
-const CAPABILITY: u32 = 0x5b;
-
-const CINCOFFSETIMM: u32 = 1;
 
 /// Makes one instruction over region 0, of which `page` is the page 0 and its only one.
 ///
@@ -74,57 +66,73 @@ fn fetch(pcc: Cap, page: &[u8]) -> Result<u32, Cause>
     ]))
 }
 
-// Fields of the word.
-fn rd(word: u32) -> u8
-    ensures is { result ≡ rd word }
-    ensures small { result < 32 }
-{
-    ((word >> 7) % 32) as u8
-}
-
-fn rs1(word: u32) -> u8
-    ensures is { result ≡ rs1 word }
-    ensures small { result < 32 }
-{
-    ((word >> 15) % 32) as u8
-}
-
-fn immediate(word: u32) -> u64
-    ensures { result ≡ immediate word }
-{
-    let low = u64::from(word >> 20);
-    if low < 2048 {
-        low
-    } else {
-        low.wrapping_sub(4096)
-    }
-}
-
-fn is_row(word: u32, opcode: u32, funct3: u32) -> bool
-    ensures { result ≡ is_row word opcode funct3 }
-{
-    word % 128 == opcode && (word >> 12) % 8 == funct3
-}
-
 // Executes the word that was fetched.
 fn execute(regs: &mut Regs, pcc: &mut Cap, word: u32) -> FirstEnd
     requires sound { IsSound regs.old pcc.old 0 }
     requires fetched { WasFetched pcc.old.bits }
-    ensures effect { HasEffect (executed regs.old pcc.old word) result regs.new pcc.new }
+    ensures effect { HasEffect (executed regs.old pcc.old (decoded word)) result regs.new pcc.new }
     ensures keeps { IsSound regs.new pcc.new 0 }
     ensures after { IsAfter result regs.old pcc.old regs.new pcc.new }
 {
-    if word == ECALL {
-        return FirstEnd::Call;
+    match decode(word) {
+        Some(instr) => perform(regs, pcc, instr),
+        None => FirstEnd::Fault(Cause::BadInstruction),
     }
-    let source = regs.get(rs1(word));
-    let sum = source.address().wrapping_add(immediate(word));
-    if is_row(word, OP_IMM, ADDI) {
-        give(regs, pcc, rd(word), Cap::from_int(sum))
-    } else if is_row(word, CAPABILITY, CINCOFFSETIMM) {
-        give(regs, pcc, rd(word), source.with_address(sum))
-    } else {
-        FirstEnd::Fault(Cause::BadInstruction)
+}
+
+// Does what the row of an instruction says.
+fn perform(regs: &mut Regs, pcc: &mut Cap, instr: Instr) -> FirstEnd
+    requires range { IsInRange instr }
+    requires sound { IsSound regs.old pcc.old 0 }
+    requires fetched { WasFetched pcc.old.bits }
+    ensures effect { HasEffect (performed regs.old pcc.old instr) result regs.new pcc.new }
+    ensures keeps { IsSound regs.new pcc.new 0 }
+    ensures after { IsAfter result regs.old pcc.old regs.new pcc.new }
+{
+    match instr {
+        Instr::Reg { op, rd, rs1, rs2 } => {
+            let result = reg_result(op, regs.get(rs1), regs.get(rs2));
+            give_if(regs, pcc, rd, result)
+        }
+        Instr::Imm { op, rd, rs1, imm } => {
+            let result = imm_result(op, regs.get(rs1), imm);
+            give_if(regs, pcc, rd, result)
+        }
+        Instr::Upper { op, rd, imm } => {
+            let result = upper_result(op, *pcc, imm);
+            give_if(regs, pcc, rd, result)
+        }
+        Instr::One { op, rd, rs1 } => {
+            let result = one_result(op, regs.get(rs1));
+            give(regs, pcc, rd, result)
+        }
+        Instr::Ecall => FirstEnd::Call,
+        Instr::Ebreak => FirstEnd::Fault(Cause::Breakpoint),
+        Instr::Fence => {
+            *pcc = next_pcc(*pcc);
+            FirstEnd::Next
+        }
+        Instr::Load { .. }
+        | Instr::Store { .. }
+        | Instr::Branch { .. }
+        | Instr::Jal { .. }
+        | Instr::Jalr { .. } => FirstEnd::Fault(Cause::BadInstruction),
+    }
+}
+
+// Puts the result of an instruction, where its row is built.
+fn give_if(regs: &mut Regs, pcc: &mut Cap, n: u8, given: Option<Cap>) -> FirstEnd
+    requires number { n < 32 }
+    requires inside { ForSome given (λ cap. IsTrue cap.tag → IsInside cap.bits 0) }
+    requires sound { IsSound regs.old pcc.old 0 }
+    requires fetched { WasFetched pcc.old.bits }
+    ensures effect { HasEffect (gives_if regs.old pcc.old n given) result regs.new pcc.new }
+    ensures keeps { IsSound regs.new pcc.new 0 }
+    ensures after { IsAfter result regs.old pcc.old regs.new pcc.new }
+{
+    match given {
+        Some(cap) => give(regs, pcc, n, cap),
+        None => FirstEnd::Fault(Cause::BadInstruction),
     }
 }
 

@@ -1,5 +1,5 @@
 // The command `run` on one image of one page.
-use crate::images::{HI, ZERO, image_of};
+use crate::images::{BOUNDS, HI, STOP, UPPER, ZERO, image_of};
 use outside_io::{MemoryFiles, MemorySink, MemorySource};
 use std::alloc::Global;
 use std::process::Abort;
@@ -55,9 +55,17 @@ fn words(alloc: Global, line: &str) -> Result<Vec<String>, Fail> {
 }
 
 fn files(alloc: Global, fails: bool) -> Result<MemoryFiles, Fail> {
+    let pages: [(&str, &[u8]); 5] = [
+        ("hi", &HI),
+        ("bounds", &BOUNDS),
+        ("stop", &STOP),
+        ("upper", &UPPER),
+        ("zero", &ZERO),
+    ];
     let mut entries = Vec::new(alloc);
-    entries.push((String::from_str(alloc, "hi")?, image_of(alloc, &HI)?))?;
-    entries.push((String::from_str(alloc, "zero")?, image_of(alloc, &ZERO)?))?;
+    for (name, page) in pages {
+        entries.push((String::from_str(alloc, name)?, image_of(alloc, page)?))?;
+    }
     entries.push((String::from_str(alloc, "five")?, vec![in alloc; 0_u8; 5]?))?;
     entries.push((
         String::from_str(alloc, "long")?,
@@ -147,9 +155,9 @@ fn a_file_over_the_limit_is_not_built(rt: HostRuntime) -> Result<(), Fail> {
 }
 
 #[test]
-fn a_word_that_is_no_instruction_kills_the_process(rt: HostRuntime) -> Result<(), Fail> {
+fn a_write_past_the_bounds_is_refused(rt: HostRuntime) -> Result<(), Fail> {
     let given = Given {
-        words: "run zero",
+        words: "run bounds",
         ..RUN
     };
     check(
@@ -158,9 +166,31 @@ fn a_word_that_is_no_instruction_kills_the_process(rt: HostRuntime) -> Result<()
             given,
             status: 0,
             out: b"",
-            err: b"exit 1 264\ndone 1\n",
+            err: b"exit 1 242\ndone 8\n",
         },
     )
+}
+
+#[test]
+fn a_fault_kills_the_process(rt: HostRuntime) -> Result<(), Fail> {
+    let rows: [(&'static str, &'static [u8]); 3] = [
+        ("run zero", b"exit 1 264\ndone 1\n"),
+        ("run stop", b"exit 1 265\ndone 2\n"),
+        ("run upper", b"exit 1 264\ndone 1\n"),
+    ];
+    for (words, err) in rows {
+        let given = Given { words, ..RUN };
+        check(
+            &rt,
+            &Row {
+                given,
+                status: 0,
+                out: b"",
+                err,
+            },
+        )?;
+    }
+    Ok(())
 }
 
 #[test]

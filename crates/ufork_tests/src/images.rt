@@ -37,6 +37,30 @@ pub const HI: [u8; 35] = [
     b'h', b'i', b'\n',
 ];
 
+/// The same with bounds of 2 bytes for the text, so that the write of 3 is refused, and without a status of its own.
+pub const BOUNDS: [u8; 35] = [
+    0x13, 0x05, 0x10, 0x00, // addi x10, x0, 1
+    0xdb, 0x15, 0x01, 0x02, // cincoffsetimm c11, c2, 32
+    0xdb, 0xa5, 0x25, 0x00, // csetboundsimm c11, c11, 2
+    0x13, 0x06, 0x30, 0x00, // addi x12, x0, 3
+    0x93, 0x08, 0x80, 0x00, // addi x17, x0, 8
+    0x73, 0x00, 0x00, 0x00, // ecall
+    0x93, 0x08, 0x10, 0x00, // addi x17, x0, 1
+    0x73, 0x00, 0x00, 0x00, // ecall
+    b'h', b'i', b'\n',
+];
+
+/// A page that stops at a breakpoint.
+pub const STOP: [u8; 8] = [
+    0x0f, 0x00, 0xf0, 0x0f, // fence
+    0x73, 0x00, 0x10, 0x00, // ebreak
+];
+
+/// A page with an instruction that isn't built.
+pub const UPPER: [u8; 4] = [
+    0xb7, 0x00, 0x00, 0x00, // lui x1, 0
+];
+
 /// A page that holds the one word 0.
 pub const ZERO: [u8; 4] = [0; 4];
 

@@ -1,0 +1,11 @@
+//! The home and the number of sharers of each frame.
+#![tactic(auto)]
+
+mod owners;
+#[cfg(test)]
+mod tests;
+
+pub use owners::{Left, Owners};
+
+/// The most sharers of a frame that one more page may join.
+pub const MOST_SHARERS: u32 = 65_535;

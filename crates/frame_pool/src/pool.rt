@@ -1,0 +1,99 @@
+// The pool of frames.
+ghost use Rattle.std.specs.Prelude.{◌≡◌, ◌↔◌, ◌≤◌, ◌<◌, ◌+◌, IfOk, IfSome, IsNone, MatchOption, ℕ, true, false, length, replicate, slice_index_or};
+ghost use Rattle.frame_pool.specs.Pool.{is_used, used_count, with_used, IsLeastFree};
+
+use cap_format::MOST_FRAMES;
+use machine_types::{FrameNo, NoMemory};
+use std::alloc::Global;
+use std::marker::Model;
+
+/// Which of the frames from 0 to below the size are used.
+#[derive(Drop)]
+pub struct FramePool {
+    used: Vec<bool>,
+    size: u32,
+}
+
+impl Model for FramePool {
+    ghost use Rattle.std.specs.Prelude.{◌≤◌, length};
+    ghost use Rattle.frame_pool.specs.Pool.{Pool, IsPool};
+    ghost use Rattle.cap_format.specs.declared.TheConstants.{MOST_FRAMES};
+
+    ghost Value = { Pool };
+
+    ghost view = { λ p. record { size = p.size; used = p.used.items } };
+
+    ghost invariant = { λ p. IsPool (record { size = p.size; used = p.used.items }) × (length p.used.items ≤ MOST_FRAMES) };
+}
+
+impl FramePool {
+    /// A pool of `n` frames, from 1 to [`MOST_FRAMES`], none of them used. It takes all its memory at once.
+    pub fn new(alloc: Global, n: u32) -> Result<FramePool, NoMemory>
+        requires least { 1 ≤ n }
+        requires most { n ≤ MOST_FRAMES }
+        ensures { IfOk result (λ pool. pool ≡ record { size = n; used = replicate n false }) }
+    {
+        match vec![in alloc; false; n as usize] {
+            Ok(used) => Ok(FramePool { used, size: n }),
+            Err(_) => Err(NoMemory),
+        }
+    }
+
+    /// Makes the pool one of `n` frames, from 1 to the number that was made. No frame is used.
+    pub fn set_size(&mut self, n: u32)
+        requires none { used_count self.old ≡ 0 }
+        requires least { 1 ≤ n }
+        requires most { n ≤ length self.old.used }
+        ensures { self.new ≡ record self.old { size = n } }
+    {
+        self.size = n;
+    }
+
+    /// Takes the least frame that isn't used. None comes exactly where all are used, and changes nothing.
+    pub fn take(&mut self) -> Option<FrameNo>
+        ensures least { IfSome result (λ frame. IsLeastFree self.old frame.0) }
+        ensures after { MatchOption result (self.new ≡ self.old) (λ frame. self.new ≡ with_used self.old frame.0 true) }
+        ensures none { IsNone result ↔ (used_count self.old ≡ self.old.size) }
+    {
+        let frame = first_free(&self.used, self.size)?;
+        self.used[frame as usize] = true;
+        Some(FrameNo(frame))
+    }
+
+    /// Gives back a frame that is used.
+    pub fn give(&mut self, f: FrameNo)
+        requires { is_used self.old f.0 ≡ true }
+        ensures after { self.new ≡ with_used self.old f.0 false }
+        ensures count { used_count self.new + 1 ≡ used_count self.old }
+    {
+        self.used[f.0 as usize] = false;
+    }
+
+    /// How many frames are used.
+    pub fn used(&self) -> u32
+        ensures { result ≡ used_count self.now }
+    {
+        self.used.iter().filter(|used| **used).count() as u32
+    }
+
+    /// How many frames aren't used.
+    pub fn free(&self) -> u32
+        ensures { result + used_count self.now ≡ self.now.size }
+    {
+        self.size - self.used()
+    }
+}
+
+// The least frame below the size that isn't used.
+fn first_free(used: &[bool], size: u32) -> Option<u32>
+    requires { size ≤ length used.now }
+    ensures least { IfSome result (λ frame. IsLeastFree (record { size = size; used = used.now }) frame) }
+    ensures none { IsNone result → (k : ℕ) → k < size → slice_index_or used.now k false ≡ true }
+{
+    for frame in 0..size {
+        if !used[frame as usize] {
+            return Some(frame);
+        }
+    }
+    None
+}

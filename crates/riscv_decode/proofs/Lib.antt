@@ -1,0 +1,5 @@
+mod Agreement
+mod Instructions
+mod Places
+mod Encodings
+mod InRange

@@ -1,0 +1,6 @@
+pub mod Words
+pub mod Rows
+pub mod Table
+pub mod Code
+pub mod Opcodes
+pub mod Decoded
