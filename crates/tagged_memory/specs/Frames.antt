@@ -1,6 +1,6 @@
 -- Frames of physical memory: 256 granules each, a granule being 128 bits with a tag.
 -- After tagged memory of the CHERI ISA v9: one tag for each aligned granule of 16 bytes, kept out of band.
-use Rattle.std.specs.Prelude.{◌≡◌, ℕ, zero, suc, ◌+◌, ◌*◌, ◌/◌, ◌%◌, ◌^◌, ◌<◌, ◌≤◌, ◌⊎◌, true, false, Bool, List, [], ◌∷◌, slice_index_or, slice_set}
+use Rattle.std.specs.Prelude.{◌≡◌, ℕ, zero, suc, ◌+◌, ◌*◌, ◌/◌, ◌%◌, ◌^◌, ◌<◌, ◌≤◌, ◌⊎◌, true, false, Bool, List, [], ◌∷◌, length, slice_index_or, slice_set}
 use Rattle.cap_format.specs.declared.TheConstants.{PAGE_GRANULES, GRANULE_BYTES}
 use Rattle.cap_format.specs.declared.cap.Cap.{Cap}
 use Rattle.cap_format.specs.Made.{null}
@@ -12,6 +12,10 @@ frame memory f = slice_index_or memory f []
 -- another frame in its place; all others stay
 abbrev pub with_frame : List (List Cap) → ℕ → List Cap → List (List Cap)
 with_frame memory f granules = slice_set memory f granules
+
+-- each frame has 256 granules
+abbrev pub AreFrames : List (List Cap) → Type 0
+AreFrames memory = (f : ℕ) → f < length memory → length (frame memory f) ≡ PAGE_GRANULES
 
 -- a granule of a frame
 abbrev pub granule : List Cap → ℕ → Cap

@@ -14,13 +14,16 @@ pub(crate) struct Frame {
 }
 
 impl Model for Frame {
-    ghost use Rattle.std.specs.Prelude.{List};
+    ghost use Rattle.std.specs.Prelude.{◌≡◌, List, length};
+    ghost use Rattle.cap_format.specs.declared.TheConstants.{PAGE_GRANULES};
     ghost use Rattle.cap_format.specs.declared.cap.Cap.{Cap};
     ghost use Rattle.tagged_memory.specs.Zipped.{zipped};
 
     ghost Value = { List Cap };
 
     ghost view = { λ f. zipped f.words f.tags };
+
+    ghost invariant = { λ f. length (zipped f.words f.tags) ≡ PAGE_GRANULES };
 }
 
 impl Frame {

@@ -16,10 +16,13 @@ pub struct Memory {
 impl Model for Memory {
     ghost use Rattle.std.specs.Prelude.{List};
     ghost use Rattle.cap_format.specs.declared.cap.Cap.{Cap};
+    ghost use Rattle.tagged_memory.specs.Frames.{AreFrames};
 
     ghost Value = { List (List Cap) };
 
     ghost view = { λ m. m.frames.items };
+
+    ghost invariant = { λ m. AreFrames m.frames.items };
 }
 
 impl Memory {
