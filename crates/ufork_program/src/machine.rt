@@ -6,8 +6,8 @@ use crate::calls::{Called, call};
 use crate::{CODE_PERMISSIONS, DATA_PERMISSIONS, MOST_STEPS};
 use cap_format::{Cap, PAGE_BYTES};
 use cheri_step::{FirstEnd, next_pcc, step_first};
-use machine_types::Regs;
 use elf_loader::{FIRST_IMAGE_BYTES, HEADER_BYTES};
+use machine_types::Regs;
 use std::marker::Model;
 
 /// A process in region 0, with one page.
