@@ -8,14 +8,14 @@ pub length-page_of : (image : List ℕ) → 4096 ≤ length image → length ima
 length-page_of image long short = simp (length-append, length-drop, length-replicate) (omega arith)
 
 -- the bytes behind the headers, at the front of a list of 4096 zeros
-pub page_of-front : (image : List ℕ) (zero : ℕ) → zero ≡ 0 → 4096 ≤ length image → drop 4096 image ++ drop (length (drop 4096 image)) (replicate 4096 zero) ≡ page_of image
-page_of-front image zero e long =
+pub page_of-front : (image : List ℕ) (fill : ℕ) → fill ≡ 0 → 4096 ≤ length image → drop 4096 image ++ drop (length (drop 4096 image)) (replicate 4096 fill) ≡ page_of image
+page_of-front image fill e long =
     let behind : 4096 - length (drop 4096 image) ≡ 8192 - length image = simp length-drop (omega arith) in
-    ap (λ l. drop 4096 image ++ l) (drop-replicate (length (drop 4096 image)) 4096 zero ∙ ap (λ n. replicate n zero) behind ∙ ap (λ z. replicate (8192 - length image) z) e)
+    ap (λ l. drop 4096 image ++ l) (drop-replicate (length (drop 4096 image)) 4096 fill ∙ ap (λ n. replicate n fill) behind ∙ ap (λ z. replicate (8192 - length image) z) e)
 
 -- the same, where the bytes behind the headers are taken by their number
-pub page_of-taken : (image : List ℕ) (zero : ℕ) → zero ≡ 0 → 4096 ≤ length image
-    → take (length image - 4096) (drop 4096 image) ++ drop (length (take (length image - 4096) (drop 4096 image))) (replicate 4096 zero) ≡ page_of image
-page_of-taken image zero e long =
+pub page_of-taken : (image : List ℕ) (fill : ℕ) → fill ≡ 0 → 4096 ≤ length image
+    → take (length image - 4096) (drop 4096 image) ++ drop (length (take (length image - 4096) (drop 4096 image))) (replicate 4096 fill) ≡ page_of image
+page_of-taken image fill e long =
     let all : take (length image - 4096) (drop 4096 image) ≡ drop 4096 image = take_all (length image - 4096) (drop 4096 image) (simp length-drop (omega arith)) in
-    rw all (page_of-front image zero e long)
+    rw all (page_of-front image fill e long)

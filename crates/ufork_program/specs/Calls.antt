@@ -5,9 +5,12 @@ use Rattle.cap_format.specs.declared.cap.Cap.{Cap}
 use Rattle.cap_format.specs.Pattern.{address_of, kind_of}
 use Rattle.cap_format.specs.Rights.{allows, holds}
 use Rattle.machine_types.specs.Registers.{register}
+use Rattle.machine_types.specs.declared.errno.Errno.{Errno}
+use Rattle.machine_types.specs.declared.errno.Errno.TheVariants.{Ebadf, Efault, Enosys}
+use Rattle.machine_types.specs.Errors.{error_number}
 use Rattle.ufork_program.specs.declared.calls.Called.{Called}
 use Rattle.ufork_program.specs.declared.calls.Called.TheVariants.{Answered, Exited}
-use Rattle.ufork_program.specs.declared.calls.TheConstants.{EXIT, WRITE, CONSOLE_OUTPUT, EBADF, EFAULT, ENOSYS}
+use Rattle.ufork_program.specs.declared.calls.TheConstants.{EXIT, WRITE, CONSOLE_OUTPUT}
 
 -- what a call does: it answers a number and prints a piece, or the process exits with a status
 pub data CallEffect : Type 0 where
@@ -19,8 +22,8 @@ abbrev pub integer : List Cap → ℕ → ℕ
 integer registers n = address_of (register registers n).bits
 
 -- a refusal is the negative of its error number
-abbrev pub refuses : ℕ → CallEffect
-refuses error = answers (2 ^ 64 - error) []
+abbrev pub refuses : Errno → CallEffect
+refuses error = answers (2 ^ 64 - error_number error) []
 
 -- Bytes may be read for the caller: the authority is tagged, no entry, may load and holds them, and they lie on the page.
 abbrev pub is_readable : Cap → ℕ → Bool
@@ -36,14 +39,14 @@ written registers page =
     let count = integer registers 12 in
     if integer registers 10 == CONSOLE_OUTPUT
     then (if count == 0 then answers 0 []
-    else (if is_readable cap count then answers count (take count (drop (address_of cap.bits - FIRST_REGION) page)) else refuses EFAULT))
-    else refuses EBADF
+    else (if is_readable cap count then answers count (take count (drop (address_of cap.bits - FIRST_REGION) page)) else refuses Efault))
+    else refuses Ebadf
 
 -- The call whose number is in x17. Another number is no call.
 unfoldable pub call_effect : List Cap → List ℕ → CallEffect
 call_effect registers page =
     if integer registers 17 == EXIT then exits (integer registers 10 % 256)
-    else (if integer registers 17 == WRITE then written registers page else refuses ENOSYS)
+    else (if integer registers 17 == WRITE then written registers page else refuses Enosys)
 
 -- the code's account of a call, whose piece is a part of the page
 abbrev pub effect_of : List ℕ → Called → CallEffect

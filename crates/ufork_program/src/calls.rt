@@ -3,7 +3,7 @@ ghost use Rattle.std.specs.Prelude.{◌≡◌, ◌<◌, ◌+◌, ◌&&◌, nat_l
 ghost use Rattle.ufork_program.specs.Calls.{is_readable, refuses, written, call_effect, effect_of, IsOnPage};
 
 use cap_format::{Cap, FIRST_REGION, LOAD, PAGE_BYTES};
-use machine_types::Regs;
+use machine_types::{Errno, Regs};
 
 /// The numbers of the calls.
 const EXIT: u64 = 1;
@@ -12,13 +12,6 @@ const WRITE: u64 = 8;
 
 /// The descriptor of the console's output.
 const CONSOLE_OUTPUT: u64 = 1;
-
-/// Errors: a bad descriptor, bytes that may not be read, and no such call.
-const EBADF: u64 = 9;
-
-const EFAULT: u64 = 14;
-
-const ENOSYS: u64 = 38;
 
 /// What a call does.
 #[derive(Clone, Copy, Debug, PartialEq, Eq)]
@@ -35,14 +28,13 @@ pub enum Called {
     },
 }
 
-// A refusal is the negative of its error.
-fn refused(error: u64) -> Called
-    requires { 0 < error }
+// A refusal is the negative of the number of its error.
+fn refused(error: Errno) -> Called
     ensures is { (page : List ℕ) → effect_of page result ≡ refuses error }
     ensures on_page { IsOnPage result }
 {
     Called::Answered {
-        value: 0u64.wrapping_sub(error),
+        value: 0u64.wrapping_sub(u64::from(error.number())),
         start: 0,
         count: 0,
     }
@@ -75,7 +67,7 @@ fn write_call(regs: &Regs, page: &[u8]) -> Called
     ensures on_page { IsOnPage result }
 {
     if regs.get(10).address() != CONSOLE_OUTPUT {
-        return refused(EBADF);
+        return refused(Errno::Ebadf);
     }
     let authority = regs.get(11);
     let count = regs.get(12).address();
@@ -87,7 +79,7 @@ fn write_call(regs: &Regs, page: &[u8]) -> Called
         };
     }
     if !is_readable(authority, count) {
-        return refused(EFAULT);
+        return refused(Errno::Efault);
     }
     Called::Answered {
         value: count,
@@ -111,5 +103,5 @@ pub fn call(regs: &Regs, page: &[u8]) -> Called
     if number == WRITE {
         return write_call(regs, page);
     }
-    refused(ENOSYS)
+    refused(Errno::Enosys)
 }
