@@ -31,12 +31,15 @@ pub struct Owners {
 }
 
 impl Model for Owners {
-    ghost use Rattle.std.specs.Prelude.{List, map};
+    ghost use Rattle.std.specs.Prelude.{◌<◌, ◌≤◌, All, List, length, map};
+    ghost use Rattle.cap_format.specs.declared.TheConstants.{MOST_FRAMES, MOST_REGIONS};
     ghost use Rattle.frame_owners.specs.Homes.{Owner};
 
     ghost Value = { List Owner };
 
     ghost view = { λ o. map (λ s. record { home = s.home; sharers = s.sharers }) o.shares.items };
+
+    ghost invariant = { λ o. (length o.shares.items ≤ MOST_FRAMES) × All (λ s. s.home < MOST_REGIONS) o.shares.items };
 }
 
 impl Owners {
@@ -95,10 +98,18 @@ impl Owners {
         }
     }
 
-    /// The home of the frame.
+    /// How many frames it was made for.
+    pub fn frames(&self) -> u32
+        ensures { result ≡ length self.now }
+    {
+        self.shares.len() as u32
+    }
+
+    /// The home of the frame, which is a region below 64.
     pub fn home(&self, f: FrameNo) -> u32
         requires { f.0 < length self.now }
-        ensures { result ≡ (owner self.now f.0).home }
+        ensures is { result ≡ (owner self.now f.0).home }
+        ensures region { result < MOST_REGIONS }
     {
         self.shares[f.0 as usize].home
     }

@@ -6,6 +6,7 @@ use std::test::Fail;
 #[test]
 fn the_last_sharer_leaves_last(rt: HostRuntime) -> Result<(), Fail> {
     let mut owners = Owners::new(rt.alloc(), 3)?;
+    assert_eq!(rt; owners.frames(), 3);
     let frame = FrameNo(1);
     owners.begin(frame, 2);
     owners.join(frame);

@@ -39,6 +39,20 @@ impl FramePool {
         }
     }
 
+    /// How many frames were made.
+    pub fn made(&self) -> u32
+        ensures { result ≡ length self.now.used }
+    {
+        self.used.len() as u32
+    }
+
+    /// How many frames the pool is of, used or not.
+    pub fn size(&self) -> u32
+        ensures { result ≡ self.now.size }
+    {
+        self.size
+    }
+
     /// Makes the pool one of `n` frames, from 1 to the number that was made. No frame is used.
     pub fn set_size(&mut self, n: u32)
         requires none { used_count self.old ≡ 0 }
@@ -53,6 +67,7 @@ impl FramePool {
     pub fn take(&mut self) -> Option<FrameNo>
         ensures least { IfSome result (λ frame. IsLeastFree self.old frame.0) }
         ensures after { MatchOption result (self.new ≡ self.old) (λ frame. self.new ≡ with_used self.old frame.0 true) }
+        ensures used { IfSome result (λ frame. is_used self.new frame.0 ≡ true) }
         ensures none { IsNone result ↔ (used_count self.old ≡ self.old.size) }
     {
         let frame = first_free(&self.used, self.size)?;

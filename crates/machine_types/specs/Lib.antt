@@ -1,3 +1,9 @@
 pub mod Causes
 pub mod Errors
 pub mod Registers
+pub mod Granules
+pub mod Stores
+pub mod Held
+pub mod Rights
+pub mod Accounts
+pub mod Touches

@@ -1,4 +1,8 @@
 // Accesses to pages, and what they do to pages that are shared.
+ghost use Rattle.std.specs.Prelude.{◌≡◌};
+ghost use Rattle.machine_types.specs.Rights.{right_of, is_allowed};
+
+use crate::{RIGHT_R, RIGHT_W, RIGHT_X};
 
 /// The number of a frame, below the number of frames of what it is used with.
 #[derive(Clone, Copy, Debug, PartialEq, Eq)]
@@ -14,6 +18,26 @@ pub enum Access {
     Read,
     Write,
     Fetch,
+}
+
+impl Access {
+    /// The right that the access wants: one of [`RIGHT_R`], [`RIGHT_W`] and [`RIGHT_X`].
+    pub fn right(self) -> u8
+        ensures { result ≡ right_of self }
+    {
+        match self {
+            Access::Read => RIGHT_R,
+            Access::Write => RIGHT_W,
+            Access::Fetch => RIGHT_X,
+        }
+    }
+
+    /// Whether these rights of a page have the one that the access wants.
+    pub fn is_allowed(self, rights: u8) -> bool
+        ensures { result ≡ is_allowed self rights }
+    {
+        rights & self.right() == self.right()
+    }
 }
 
 /// What an access did to a page that it had to make fit.

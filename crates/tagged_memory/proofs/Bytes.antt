@@ -1,7 +1,7 @@
 -- Bytes of a frame, one after another.
 use Rattle.std.proofs.Common.{◌≡◌, ℕ, zero, suc, ◌+◌, List, [], ◌∷◌, ◌++◌, ap, refl, arith}
 use Rattle.cap_format.specs.declared.cap.Cap.{Cap}
-use Rattle.tagged_memory.specs.Frames.{number_at, bytes_at}
+use Rattle.machine_types.specs.Granules.{number_at, bytes_at}
 
 -- one more byte is the byte after the others
 pub bytes_at-more : (granules : List Cap) (at count : ℕ) → bytes_at granules at (count + 1) ≡ bytes_at granules at count ++ number_at granules (at + count) 1 ∷ []

@@ -3,7 +3,8 @@ use Rattle.std.proofs.Common.{◌≡◌, ℕ, zero, suc, List, [], ◌∷◌, �
 use Rattle.std.proofs.lemmas.Grind.{common_steps}
 use Rattle.cap_format.specs.declared.TheConstants.{PAGE_GRANULES}
 use Rattle.cap_format.specs.declared.cap.Cap.{Cap}
-use Rattle.tagged_memory.specs.Frames.{AreFrames, with_number, with_bytes}
+use Rattle.machine_types.specs.Granules.{with_number, with_bytes}
+use Rattle.tagged_memory.specs.Frames.{AreFrames}
 
 -- each is a frame still, where one is replaced by a frame
 pub AreFrames-set : (frames : List (List Cap)) (g : ℕ) (granules : List Cap) → AreFrames frames → length granules ≡ PAGE_GRANULES → AreFrames (slice_set frames g granules)

@@ -1,7 +1,7 @@
 -- The bits of a granule's word.
 use Rattle.std.proofs.Common.{◌≡◌, ℕ, ◌+◌, ◌*◌, ◌-◌, ◌/◌, ◌%◌, ◌^◌, ◌<◌, ◌≤◌, bit_and, bit_or, ap, sym, ◌∙◌, arith}
 use Rattle.std.proofs.lemmas.Nat.{one_shl, and_mask, or_shifted, shl_whole, shr_below, shr-shr, pow-add, mod_below, mul-add-lt, pow_pos}
-use Rattle.tagged_memory.specs.Frames.{with_bits}
+use Rattle.machine_types.specs.Granules.{with_bits}
 
 -- a mask of `width` ones leaves the low bits
 pub masked : (n width : ℕ) → width < 128 → bit_and n (1 * 2 ^ width % 2 ^ 128 - 1) ≡ n % 2 ^ width

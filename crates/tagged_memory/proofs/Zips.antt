@@ -2,7 +2,7 @@
 use Rattle.std.proofs.Common.{◌≡◌, ℕ, zero, suc, ◌<◌, Bool, false, List, [], ◌∷◌, length, get_or, set, refl, ap, arith}
 use Rattle.std.proofs.lemmas.Grind.{common_steps}
 use Rattle.cap_format.specs.declared.cap.Cap.{Cap}
-use Rattle.tagged_memory.specs.Frames.{granule}
+use Rattle.machine_types.specs.Granules.{granule}
 use Rattle.tagged_memory.specs.Zipped.{zipped}
 
 -- a granule has the bits and the tag at its place

@@ -1,7 +1,8 @@
 // One frame.
 ghost use Rattle.std.specs.Prelude.{◌≡◌, ◌↔◌, ◌≤◌, ◌<◌, ◌+◌, ◌%◌, ◌^◌, ℕ, IfSome, IsNone, false, length, replicate, slice_set};
 ghost use Rattle.cap_format.specs.Made.{null};
-ghost use Rattle.tagged_memory.specs.Frames.{granule, IsSize, number_at, with_bits, with_number, bytes_at, with_bytes, is_tagged, IsNextTag};
+ghost use Rattle.machine_types.specs.Granules.{granule, IsSize, number_at, with_bits, with_number, bytes_at, with_bytes, is_tagged};
+ghost use Rattle.tagged_memory.specs.Frames.{IsNextTag};
 
 use cap_format::{Cap, GRANULE_BYTES, PAGE_BYTES, PAGE_GRANULES};
 use std::marker::Model;

@@ -14,7 +14,8 @@ pub struct Memory {
 }
 
 impl Model for Memory {
-    ghost use Rattle.std.specs.Prelude.{List};
+    ghost use Rattle.std.specs.Prelude.{◌≤◌, List, length};
+    ghost use Rattle.cap_format.specs.declared.TheConstants.{MOST_FRAMES};
     ghost use Rattle.cap_format.specs.declared.cap.Cap.{Cap};
     ghost use Rattle.tagged_memory.specs.Frames.{AreFrames};
 
@@ -22,12 +23,13 @@ impl Model for Memory {
 
     ghost view = { λ m. m.frames.items };
 
-    ghost invariant = { λ m. AreFrames m.frames.items };
+    ghost invariant = { λ m. AreFrames m.frames.items × (length m.frames.items ≤ MOST_FRAMES) };
 }
 
 impl Memory {
     ghost use Rattle.cap_format.specs.Made.{null};
-    ghost use Rattle.tagged_memory.specs.Frames.{frame, with_frame, granule, IsSize, number_at, with_number, bytes_at, with_bytes, is_tagged, IsNextTag};
+    ghost use Rattle.machine_types.specs.Granules.{granule, IsSize, number_at, with_number, bytes_at, with_bytes, is_tagged};
+    ghost use Rattle.tagged_memory.specs.Frames.{frame, with_frame, IsNextTag};
     ghost use Rattle.std.specs.Prelude.{slice_set};
 
     /// So many frames, from 1 to [`MOST_FRAMES`]: all bytes are 0 and no granule is tagged. It takes all its
@@ -42,6 +44,13 @@ impl Memory {
             made.push(Frame::new()).unwrap();
         }
         Ok(Memory { frames: made })
+    }
+
+    /// How many frames were made.
+    pub fn frames(&self) -> u32
+        ensures { result ≡ length self.now }
+    {
+        self.frames.len() as u32
     }
 
     /// The number of `size` bytes, 1, 2, 4 or 8, at a byte of a frame that is a multiple of `size`.

@@ -7,11 +7,13 @@ use machine_types::FrameNo;
 fn a_store_clears_the_tag_of_its_granule(rt: HostRuntime) {
     let f = FrameNo(0);
     let mut memory = Memory::new(rt.alloc(), 2).expect(&rt, "no memory");
+    let frames = memory.frames();
     memory.store_cap(f, 0, Cap::root(0, 0x3c));
     let tagged = memory.next_tag(f, 0);
     memory.store(f, 8, 8, 0);
     let tag = memory.load_cap(f, 0).tag;
     let none = memory.next_tag(f, 0);
+    assert!(rt; frames == 2);
     assert!(rt; tagged == Some(0));
     assert!(rt; !tag);
     assert!(rt; none == None);

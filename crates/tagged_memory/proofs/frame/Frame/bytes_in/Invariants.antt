@@ -1,5 +1,5 @@
 use Rattle.std.proofs.Common.{◌≡◌, ◌+◌, drop}
-use Rattle.tagged_memory.specs.Frames.{with_bytes}
+use Rattle.machine_types.specs.Granules.{with_bytes}
 use Rattle.tagged_memory.proofs.frame.Frame.bytes_in.Given as goal
 
 -- the bytes to come make the frame that is wanted

@@ -1,5 +1,5 @@
 use Rattle.std.proofs.Common.{◌≡◌, take}
-use Rattle.tagged_memory.specs.Frames.{bytes_at}
+use Rattle.machine_types.specs.Granules.{bytes_at}
 use Rattle.tagged_memory.proofs.frame.Frame.bytes_out.Given as goal
 
 -- the bytes so far

@@ -1,5 +1,5 @@
 use Rattle.std.proofs.Common.{arith, ap, sym, ◌∙◌}
-use Rattle.tagged_memory.specs.Frames.{is_tagged}
+use Rattle.machine_types.specs.Granules.{is_tagged}
 use Rattle.tagged_memory.proofs.Zips.{granule-zipped}
 use Rattle.tagged_memory.proofs.frame.Frame.is_tagged.Goals as goal
 

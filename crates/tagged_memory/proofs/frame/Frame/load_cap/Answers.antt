@@ -1,5 +1,5 @@
 use Rattle.std.proofs.Common.{arith, ap, sym, ◌∙◌}
-use Rattle.tagged_memory.specs.Frames.{granule}
+use Rattle.machine_types.specs.Granules.{granule}
 use Rattle.tagged_memory.proofs.Zips.{granule-zipped}
 use Rattle.tagged_memory.proofs.frame.Frame.load_cap.Goals as goal
 

@@ -1,5 +1,5 @@
 use Rattle.std.proofs.Common.{◌≡◌, ℕ, ◌≤◌, ◌<◌, false}
-use Rattle.tagged_memory.specs.Frames.{is_tagged}
+use Rattle.machine_types.specs.Granules.{is_tagged}
 use Rattle.tagged_memory.proofs.frame.Frame.next_tag.Given as goal
 
 -- no granule so far is tagged

@@ -5,6 +5,6 @@ use Rattle.tagged_memory.proofs.memory.Memory.bytes_in.Goals as goal
 
 pub invariant_of-self : goal.invariant_of-self
 invariant_of-self c =
-    let before = c.self.invariant c.args.f.0 (grind (arith, common_steps)) in
+    let before = c.self.invariant.0 c.args.f.0 (grind (arith, common_steps)) in
     let size = with_bytes-length c.index_mut-frame.result.now c.args.at c.args.from.now in
-    AreFrames-set c.self.inside.frames.items c.args.f.0 c.bytes_in.new.self c.self.invariant (grind (arith, common_steps))
+    (AreFrames-set c.self.inside.frames.items c.args.f.0 c.bytes_in.new.self c.self.invariant.0 (grind (arith, common_steps)), grind (arith, common_steps))

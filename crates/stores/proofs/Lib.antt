@@ -1,0 +1,17 @@
+pub mod NewBoards
+pub mod WorkedOut
+pub mod FramesShared
+pub mod BoardCounts
+pub mod CallShapes
+pub mod Settings
+pub mod OtherStores
+pub mod TouchLemmas
+pub mod UsedFrames
+pub mod ForkLemmas
+pub mod Covered
+pub mod Ended
+pub mod Fits
+pub mod Prepared
+pub mod KeptRegions
+pub mod WholeStores
+pub mod Keeping

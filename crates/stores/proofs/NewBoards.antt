@@ -1,0 +1,20 @@
+-- A board that was just made.
+use Rattle.std.proofs.Common.{◌≡◌, ℕ, zero, suc, Bool, true, false, cond, Option, None, replicate, count_by, refl, arith}
+use Rattle.std.proofs.lemmas.List.Sums.{sum_by-cons}
+use Rattle.frame_owners.specs.Homes.{owner, nobody}
+
+-- none of so many is used
+pub unused-count : (count : ℕ) → count_by (λ used. used) (replicate count false) ≡ 0
+unused-count zero = refl
+unused-count (suc count) = omega (arith, unused-count count, sum_by-cons (λ (used : Bool). cond used 1 0) false (replicate count false))
+
+-- nobody has any of so many frames
+pub nobody-shares : (count f : ℕ) → (owner (replicate count nobody) f).sharers ≡ 0
+nobody-shares zero f = refl
+nobody-shares (suc count) zero = refl
+nobody-shares (suc count) (suc f) = nobody-shares count f
+
+-- nothing or nothing
+pub empty-choice : {A : Type 0} (b : Bool) (x : Option A) → x ≡ None → cond b x None ≡ None
+empty-choice true x none = none
+empty-choice false x none = refl

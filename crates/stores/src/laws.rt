@@ -1,0 +1,72 @@
+// Laws of the definitions. Each function states one, does nothing and takes nothing.
+ghost use Rattle.stores.specs.Laws.{SettingsStay, UsedStaysWithin, OtherStoresStay, RegionsAreKept, TouchesAreExact, ForkCopiesTheStore, EndKeepsShared, CoversEachByte, PreparedIsReady, OneFrameForOneClass, EachPageHasOneClass, StoresAreWhole, TakenAreUsed, EmptyStandsForNothing};
+
+/// No call changes the copy rule or the number of frames.
+pub fn settings_stay()
+    ensures { SettingsStay }
+{}
+
+/// Each call that finds no more frames used than there are leaves no more used.
+pub fn used_stays_within()
+    ensures { UsedStaysWithin }
+{}
+
+/// Each call leaves the stores of the regions that it doesn't name, and one that only touches leaves every store.
+pub fn other_stores_stay()
+    ensures { OtherStoresStay }
+{}
+
+/// Which calls give a region a store or take it away.
+pub fn regions_are_kept()
+    ensures { RegionsAreKept }
+{}
+
+/// What a touch takes and leaves: a sole member needs no frame, and a frame is wanted only where all are used.
+pub fn touches_are_exact()
+    ensures { TouchesAreExact }
+{}
+
+/// What a fork gives the child, how many frames it uses, and when it is refused.
+pub fn fork_copies_the_store()
+    ensures { ForkCopiesTheStore }
+{}
+
+/// When a region ends, the pages of all others stay in their classes.
+pub fn end_keeps_shared()
+    ensures { EndKeepsShared }
+{}
+
+/// The scan of a transfer's bytes says that each of them is covered.
+pub fn covers_each_byte()
+    ensures { CoversEachByte }
+{}
+
+/// A transfer whose touches were made has none left to make.
+pub fn prepared_is_ready()
+    ensures { PreparedIsReady }
+{}
+
+/// On a board two pages have one frame exactly where their members are in one class.
+pub fn one_frame_for_one_class()
+    ensures { OneFrameForOneClass }
+{}
+
+/// On a board each page is a member of exactly one class, and each member is a page.
+pub fn each_page_has_one_class()
+    ensures { EachPageHasOneClass }
+{}
+
+/// On a board each page has 256 granules, and there is none past the last page of a region.
+pub fn stores_are_whole()
+    ensures { StoresAreWhole }
+{}
+
+/// On a board the taken frames are as many as the classes, and no more than there are.
+pub fn taken_are_used()
+    ensures { TakenAreUsed }
+{}
+
+/// A board is empty exactly where it stands for nothing.
+pub fn empty_stands_for_nothing()
+    ensures { EmptyStandsForNothing }
+{}
