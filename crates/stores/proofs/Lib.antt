@@ -15,3 +15,4 @@ pub mod Prepared
 pub mod KeptRegions
 pub mod WholeStores
 pub mod Keeping
+pub mod Refusals

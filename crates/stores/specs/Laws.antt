@@ -6,6 +6,7 @@ use Rattle.machine_types.specs.declared.config.Rule.{Rule}
 use Rattle.machine_types.specs.declared.config.Rule.TheVariants.{Full}
 use Rattle.machine_types.specs.declared.touches.Access.{Access}
 use Rattle.machine_types.specs.declared.touches.Note.{Note}
+use Rattle.machine_types.specs.declared.touches.NoFrame.{NoFrame}
 use Rattle.machine_types.specs.declared.touches.Touched.{Touched}
 use Rattle.machine_types.specs.declared.touches.Touched.TheVariants.{No, Copied, Moved}
 use Rattle.machine_types.specs.Stores.{Store, IsStore, moved_store}
@@ -13,6 +14,7 @@ use Rattle.machine_types.specs.Accounts.{Class, has_member, account_at_end}
 use Rattle.frame_pool.specs.Pool.{used_count}
 use Rattle.stores.specs.declared.TheConstants.{MOST_TRANSFER}
 use Rattle.stores.specs.declared.board.Board.{Board}
+use Rattle.stores.specs.declared.space.Refusal.{Refusal}
 use Rattle.stores.specs.Content.{Content, nothing, page_at, class_at, used_frames, free_frames}
 use Rattle.stores.specs.Accesses.{note_of, touched, read_of, read_cap_of, fetch_of, write_of, write_cap_of}
 use Rattle.stores.specs.Regions.{no_frame, begin_of, end_of, add_page_of, seed_cap_of, numbers_in, fork_of}
@@ -42,6 +44,18 @@ pub record HasSameSetting (before after : Content) : Type 0 where
 
 abbrev pub SettingsStay : Type 0
 SettingsStay = OfEachCall HasSameSetting
+
+-- A refused call changes nothing, except that in `prepare` the touch that the refusal names stays.
+pub record RefusalsChangeNothing : Type 0 where
+  pub add_page : (c : Content) (region page rights : ℕ) (bytes : List ℕ) (refused : NoFrame) → (add_page_of c region page rights bytes).answer ≡ Err refused → (add_page_of c region page rights bytes).after ≡ c
+  pub read : (c : Content) (region at size : ℕ) (refused : Refusal) → (read_of c region at size).answer ≡ Err refused → (read_of c region at size).after ≡ c
+  pub read_cap : (c : Content) (region at : ℕ) (refused : Refusal) → (read_cap_of c region at).answer ≡ Err refused → (read_cap_of c region at).after ≡ c
+  pub write : (c : Content) (region at size v : ℕ) (refused : Refusal) → (write_of c region at size v).answer ≡ Err refused → (write_of c region at size v).after ≡ c
+  pub write_cap : (c : Content) (region at : ℕ) (cap : Cap) (refused : Refusal) → (write_cap_of c region at cap).answer ≡ Err refused → (write_cap_of c region at cap).after ≡ c
+  pub fetch : (c : Content) (region at : ℕ) (refused : Refusal) → (fetch_of c region at).answer ≡ Err refused → (fetch_of c region at).after ≡ c
+  pub prepare : (c : Content) (region at n : ℕ) (access : Access) (refused : NoFrame) → (prepare_of c region at n access).answer ≡ Err refused
+      → (prepare_of c region at n access).after ≡ touched c region refused.before
+  pub fork : (c : Content) (from to : ℕ) (refused : NoFrame) → (fork_of c from to).answer ≡ Err refused → (fork_of c from to).after ≡ c
 
 -- no more frames are used than there are, where no more were
 abbrev pub UsedStaysWithin : Type 0

@@ -1,9 +1,14 @@
 // Laws of the definitions. Each function states one, does nothing and takes nothing.
-ghost use Rattle.stores.specs.Laws.{SettingsStay, UsedStaysWithin, OtherStoresStay, RegionsAreKept, TouchesAreExact, ForkCopiesTheStore, EndKeepsShared, CoversEachByte, PreparedIsReady, OneFrameForOneClass, EachPageHasOneClass, StoresAreWhole, TakenAreUsed, EmptyStandsForNothing};
+ghost use Rattle.stores.specs.Laws.{SettingsStay, RefusalsChangeNothing, UsedStaysWithin, OtherStoresStay, RegionsAreKept, TouchesAreExact, ForkCopiesTheStore, EndKeepsShared, CoversEachByte, PreparedIsReady, OneFrameForOneClass, EachPageHasOneClass, StoresAreWhole, TakenAreUsed, EmptyStandsForNothing};
 
 /// No call changes the copy rule or the number of frames.
 pub fn settings_stay()
     ensures { SettingsStay }
+{}
+
+/// A refused call changes nothing, except that in `prepare` the touch that the refusal names stays.
+pub fn refusals_change_nothing()
+    ensures { RefusalsChangeNothing }
 {}
 
 /// Each call that finds no more frames used than there are leaves no more used.
