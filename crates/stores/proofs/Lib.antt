@@ -16,3 +16,4 @@ pub mod KeptRegions
 pub mod WholeStores
 pub mod Keeping
 pub mod Refusals
+pub mod OwnStore

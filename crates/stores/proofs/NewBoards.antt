@@ -1,12 +1,11 @@
 -- A board that was just made.
 use Rattle.std.proofs.Common.{◌≡◌, ℕ, zero, suc, Bool, true, false, cond, Option, None, replicate, count_by, refl, arith}
-use Rattle.std.proofs.lemmas.List.Sums.{sum_by-cons}
+use Rattle.std.proofs.lemmas.List.Folds.{sum_by-replicate}
 use Rattle.frame_owners.specs.Homes.{owner, nobody}
 
 -- none of so many is used
 pub unused-count : (count : ℕ) → count_by (λ used. used) (replicate count false) ≡ 0
-unused-count zero = refl
-unused-count (suc count) = omega (arith, unused-count count, sum_by-cons (λ (used : Bool). cond used 1 0) false (replicate count false))
+unused-count count = omega (arith, sum_by-replicate (λ (used : Bool). cond {A = ℕ} used 1 0) count false)
 
 -- nobody has any of so many frames
 pub nobody-shares : (count f : ℕ) → (owner (replicate count nobody) f).sharers ≡ 0

@@ -15,10 +15,11 @@ use Rattle.frame_pool.specs.Pool.{used_count}
 use Rattle.stores.specs.declared.TheConstants.{MOST_TRANSFER}
 use Rattle.stores.specs.declared.board.Board.{Board}
 use Rattle.stores.specs.declared.space.Refusal.{Refusal}
-use Rattle.stores.specs.Content.{Content, nothing, page_at, class_at, used_frames, free_frames}
+use Rattle.stores.specs.Content.{Content, Outcome, nothing, page_at, class_at, used_frames, free_frames}
 use Rattle.stores.specs.Accesses.{note_of, touched, read_of, read_cap_of, fetch_of, write_of, write_cap_of}
 use Rattle.stores.specs.Regions.{no_frame, begin_of, end_of, add_page_of, seed_cap_of, numbers_in, fork_of}
-use Rattle.stores.specs.Transfers.{covers_of, prepare_of, write_bytes_of}
+use Rattle.stores.specs.Transfers.{covers_of, prepare_of, read_bytes_of, write_bytes_of}
+use Rattle.stores.specs.Looks.{peek_of, rights_of, standing_of}
 use Rattle.stores.specs.Known.{Covers, IsReady}
 use Rattle.stores.specs.Boards.{IsEmpty, Stands, count_of, frame_of}
 
@@ -98,6 +99,39 @@ pub record RegionsAreKept : Type 0 where
   pub prepare : (c : Content) (region at n : ℕ) (access : Access) → HasSameRegions c (prepare_of c region at n access).after
   pub write_bytes : (c : Content) (region at : ℕ) (bytes : List ℕ) → HasSameRegions c (write_bytes_of c region at bytes)
   pub fork : (c : Content) (from to : ℕ) → (fork_of c from to).answer ≡ Ok tt → is_some ((fork_of c from to).after.stores to) ≡ is_some (c.stores from)
+
+-- Two contents that a call on the region can't tell apart: its store, the account, the rule and the number of frames are
+-- the same.
+pub record AreAlike (region : ℕ) (c d : Content) : Type 0 where
+  pub store : d.stores region ≡ c.stores region
+  pub account : d.account ≡ c.account
+  pub rule : d.rule ≡ c.rule
+  pub frames : d.frames ≡ c.frames
+
+-- the same answer, and contents that are alike
+pub record GiveAlike {A : Type 0} (region : ℕ) (o p : Outcome A) : Type 0 where
+  pub answer : p.answer ≡ o.answer
+  pub after : AreAlike region o.after p.after
+
+-- Each call on a region depends on no other region's store, and what it leaves to the region neither.
+pub record OwnStoreDecides : Type 0 where
+  pub begin : (c d : Content) (region : ℕ) → AreAlike region c d → AreAlike region (begin_of c region) (begin_of d region)
+  pub end : (c d : Content) (region : ℕ) → AreAlike region c d → AreAlike region (end_of c region) (end_of d region)
+  pub add_page : (c d : Content) (region page rights : ℕ) (bytes : List ℕ) → AreAlike region c d → GiveAlike region (add_page_of c region page rights bytes) (add_page_of d region page rights bytes)
+  pub seed_cap : (c d : Content) (region at : ℕ) (cap : Cap) → AreAlike region c d → AreAlike region (seed_cap_of c region at cap) (seed_cap_of d region at cap)
+  pub read : (c d : Content) (region at size : ℕ) → AreAlike region c d → GiveAlike region (read_of c region at size) (read_of d region at size)
+  pub read_cap : (c d : Content) (region at : ℕ) → AreAlike region c d → GiveAlike region (read_cap_of c region at) (read_cap_of d region at)
+  pub write : (c d : Content) (region at size v : ℕ) → AreAlike region c d → GiveAlike region (write_of c region at size v) (write_of d region at size v)
+  pub write_cap : (c d : Content) (region at : ℕ) (cap : Cap) → AreAlike region c d → GiveAlike region (write_cap_of c region at cap) (write_cap_of d region at cap)
+  pub fetch : (c d : Content) (region at : ℕ) → AreAlike region c d → GiveAlike region (fetch_of c region at) (fetch_of d region at)
+  pub covers : (c d : Content) (region at n : ℕ) (access : Access) → AreAlike region c d → covers_of d region access at n ≡ covers_of c region access at n
+  pub prepare : (c d : Content) (region at n : ℕ) (access : Access) → AreAlike region c d → GiveAlike region (prepare_of c region at n access) (prepare_of d region at n access)
+  pub read_bytes : (c d : Content) (region at n : ℕ) → AreAlike region c d → read_bytes_of d region at n ≡ read_bytes_of c region at n
+  pub write_bytes : (c d : Content) (region at : ℕ) (bytes : List ℕ) → AreAlike region c d → AreAlike region (write_bytes_of c region at bytes) (write_bytes_of d region at bytes)
+  pub fork : (c d : Content) (from to : ℕ) → AreAlike from c d → AreAlike to c d → GiveAlike to (fork_of c from to) (fork_of d from to)
+  pub peek : (c d : Content) (region page g : ℕ) → AreAlike region c d → peek_of d region page g ≡ peek_of c region page g
+  pub rights : (c d : Content) (region page : ℕ) → AreAlike region c d → rights_of d region page ≡ rights_of c region page
+  pub standing : (c d : Content) (region page : ℕ) → AreAlike region c d → standing_of d region page ≡ standing_of c region page
 
 -- a copy takes one frame, and nothing else that a touch does takes any
 abbrev pub frames_for : Touched → ℕ

@@ -1,5 +1,5 @@
 // Laws of the definitions. Each function states one, does nothing and takes nothing.
-ghost use Rattle.stores.specs.Laws.{SettingsStay, RefusalsChangeNothing, UsedStaysWithin, OtherStoresStay, RegionsAreKept, TouchesAreExact, ForkCopiesTheStore, EndKeepsShared, CoversEachByte, PreparedIsReady, OneFrameForOneClass, EachPageHasOneClass, StoresAreWhole, TakenAreUsed, EmptyStandsForNothing};
+ghost use Rattle.stores.specs.Laws.{SettingsStay, RefusalsChangeNothing, UsedStaysWithin, OtherStoresStay, RegionsAreKept, OwnStoreDecides, TouchesAreExact, ForkCopiesTheStore, EndKeepsShared, CoversEachByte, PreparedIsReady, OneFrameForOneClass, EachPageHasOneClass, StoresAreWhole, TakenAreUsed, EmptyStandsForNothing};
 
 /// No call changes the copy rule or the number of frames.
 pub fn settings_stay()
@@ -24,6 +24,11 @@ pub fn other_stores_stay()
 /// Which calls give a region a store or take it away.
 pub fn regions_are_kept()
     ensures { RegionsAreKept }
+{}
+
+/// Each call on a region depends on no other region's store, and what it leaves to the region neither.
+pub fn own_store_decides()
+    ensures { OwnStoreDecides }
 {}
 
 /// What a touch takes and leaves: a sole member needs no frame, and a frame is wanted only where all are used.

@@ -17,9 +17,9 @@ pub use callers::{add_and_fork, take_bytes};
 pub use examples::{a_second_copy_finds_no_frame, the_home_decides, the_last_member_moves};
 pub use laws::{
     covers_each_byte, each_page_has_one_class, empty_stands_for_nothing, end_keeps_shared,
-    fork_copies_the_store, one_frame_for_one_class, other_stores_stay, prepared_is_ready,
-    refusals_change_nothing, regions_are_kept, settings_stay, stores_are_whole, taken_are_used,
-    touches_are_exact, used_stays_within,
+    fork_copies_the_store, one_frame_for_one_class, other_stores_stay, own_store_decides,
+    prepared_is_ready, refusals_change_nothing, regions_are_kept, settings_stay, stores_are_whole,
+    taken_are_used, touches_are_exact, used_stays_within,
 };
 pub use space::{Refusal, Stores, Translation};
 
