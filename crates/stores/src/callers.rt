@@ -10,8 +10,10 @@ use crate::space::{Refusal, Stores};
 use cap_format::{MOST_REGIONS, REGION_BYTES};
 use machine_types::Access;
 
-/// Adds the number of eight bytes at one place of a region to that at another, and forks the region to one that has no
-/// store. A refusal of one of the four calls ends it, with what the earlier ones did.
+/// Adds the number of eight bytes at one place of a region to that at another, modulo `2^64`, and forks the region to one
+/// that has no store. Both places are multiples of 8 below [`REGION_BYTES`], and both regions below [`MOST_REGIONS`]. The
+/// refusal of one of the four calls ends it, and what the earlier ones did stays; a fork that is refused is
+/// [`Refusal::NoFrame`].
 pub fn add_and_fork<S: Stores>(
     space: &mut S,
     region: u32,

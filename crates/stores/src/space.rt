@@ -51,8 +51,10 @@ pub struct Translation {
 /// [`REGION_BYTES`]. No call takes memory. A refused call changes nothing, except that in [`Stores::prepare`] the touch
 /// that was made before stays. The account, touches and copies are this project's own.
 pub trait Stores {
+    /// The contents that it stands for.
     ghost stands_for: { Self → Content → Type 0 };
 
+    /// The frame of each page of each region.
     ghost frame_at: { Self → ℕ → ℕ → Option ℕ };
 
     /// Gives a region, which has none, an empty store.
