@@ -70,13 +70,23 @@ least-after place address size least most long = record {
   ];
 }
 
+-- 2^64 bytes have a least one too
+least-whole : (address : ℕ) → IsLeastEnough 52 address (2 ^ 64)
+least-whole address =
+    let near = reach-most 52 address (2 ^ 64) in
+    least-at 52 address (2 ^ 64) (omega arith) (omega arith)
+
 -- there is a least one
-pub exponent-least : (address size : ℕ) → 4096 ≤ size → size < 2 ^ 64 → IsLeastEnough (exponent_for address size) address size × (exponent_for address size < 53)
+pub exponent-least : (address size : ℕ) → 4096 ≤ size → size ≤ 2 ^ 64 → IsLeastEnough (exponent_for address size) address size × (exponent_for address size < 53)
 exponent-least address size some small =
-    let (place, count, least, most) = place-of size some small in
-    elim (cases_lt (reach place address size) (2 ^ (place + 13))) [
-      | inl short ↦ given place (omega arith) (least-at place address size least short)
-      | inr long ↦ given (place + 1) (omega arith) (least-after place address size least most long)
+    elim (cases_lt size (2 ^ 64)) [
+      | inr whole ↦ given 52 (omega arith) (let same : 2 ^ 64 ≡ size = omega arith in subst (λ x. IsLeastEnough 52 address x) same (least-whole address))
+      | inl below ↦
+          (let (place, count, least, most) = place-of size some below in
+          elim (cases_lt (reach place address size) (2 ^ (place + 13))) [
+            | inl short ↦ given place (omega arith) (least-at place address size least short)
+            | inr long ↦ given (place + 1) (omega arith) (least-after place address size least most long)
+          ])
     ]
   where
     given : (k : ℕ) → k < 53 → IsLeastEnough k address size → IsLeastEnough (exponent_for address size) address size × (exponent_for address size < 53)

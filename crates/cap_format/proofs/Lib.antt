@@ -1,5 +1,7 @@
 pub mod Blocks
 pub mod Bases
+pub mod Exact
+pub mod RoundedLengths
 pub mod Roots
 pub mod Moves
 pub mod Rounding
@@ -11,3 +13,4 @@ pub mod Within
 pub mod Sealed
 pub mod MovedFields
 pub mod RegionMoves
+pub mod CodeRules

@@ -2,14 +2,14 @@
 use Rattle.std.proofs.Common.{◌≡◌, ℕ, inl, inr, ◌+◌, ◌-◌, ◌*◌, ◌/◌, ◌%◌, ◌^◌, ◌<◌, ◌≤◌, ap, sym, subst, ◌∙◌, arith}
 use Rattle.std.specs.Prelude.{pos, ◌+ℤ◌}
 use Rattle.std.proofs.lemmas.Bool.{cases_lt}
-use Rattle.std.proofs.lemmas.Nat.{pow_pos, shl-shr, mod_below}
+use Rattle.std.proofs.lemmas.Nat.{pow_pos, shl-shr, shr_high, mod_below}
 use Rattle.std.proofs.Math.Nat.{lt_of_mul-lt-mul_right, pow-le-pow_right}
 use Rattle.cap_format.specs.Pattern.{address_of, meta_of, internal_of, exponent_of, top_mantissa_of, bottom_mantissa_of, length_mantissa_of, span_of, length_of, base_of, top_of}
 use Rattle.cap_format.specs.SetBounds.{low_end, high_end, bounds_for, bounded_base, bounded_top, bounded, exponent_for}
 use Rattle.cap_format.proofs.Rounding.{pow-sum, reach, reach-order, down-near}
 use Rattle.cap_format.proofs.Exponents.{exponent-least, exponent-long}
 use Rattle.cap_format.proofs.Ends.{base-plain, top-plain, bits-plain, base-rounded, top-rounded, bits-rounded}
-use Rattle.cap_format.proofs.Patterns.{pattern, span-past, base-is, plain, plain-short, plain-address, plain-internal, plain-top, plain-bottom, plain-exponent, coarse, coarse-short, coarse-address, coarse-internal, coarse-top, coarse-bottom, coarse-exponent}
+use Rattle.cap_format.proofs.Patterns.{pattern, pattern-meta, span-past, base-is, plain, plain-short, plain-address, plain-internal, plain-top, plain-bottom, plain-exponent, coarse, coarse-short, coarse-address, coarse-internal, coarse-top, coarse-bottom, coarse-exponent}
 
 -- a length is that of its parts
 length-is : (bits top bottom internal exponent length : ℕ) → internal_of bits ≡ internal → exponent_of bits ≡ exponent → top_mantissa_of bits ≡ top → bottom_mantissa_of bits ≡ bottom → span_of top bottom + 4096 * internal ≡ length → length_of bits ≡ length * 2 ^ exponent
@@ -144,14 +144,14 @@ bounded-large : (bits size : ℕ) → 4096 ≤ size → bounded bits size ≡ la
 bounded-large bits size h = ap (λ x. pattern (meta_of bits / 2 ^ 27) x (address_of bits)) (bits-rounded (address_of bits) size h)
 
 -- the exponent of 4096 bytes or more is below 64, and the rounded bytes are as long as a mantissa from 4096 on says
-exponent-fits : (address size : ℕ) → 4096 ≤ size → size < 2 ^ 64 → (exponent_for address size < 64) × (2 ^ exponent_for address size * 4096 ≤ reach (exponent_for address size) address size) × (reach (exponent_for address size) address size < 2 ^ (exponent_for address size + 13))
+exponent-fits : (address size : ℕ) → 4096 ≤ size → size ≤ 2 ^ 64 → (exponent_for address size < 64) × (2 ^ exponent_for address size * 4096 ≤ reach (exponent_for address size) address size) × (reach (exponent_for address size) address size < 2 ^ (exponent_for address size + 13))
 exponent-fits address size some small =
     let least = exponent-least address size some small in
     let below = least.1 in
     (omega arith, exponent-long (exponent_for address size) address size some least.0, least.0.enough)
 
 -- a new pattern has the old address
-pub new-address : (bits size : ℕ) → size < 2 ^ 64 → address_of (bounded bits size) ≡ address_of bits
+pub new-address : (bits size : ℕ) → size ≤ 2 ^ 64 → address_of (bounded bits size) ≡ address_of bits
 new-address bits size small =
     elim (cases_lt size 4096) [
       | inl few ↦ ap address_of (bounded-plain bits size few) ∙ plain-address (meta_of bits / 2 ^ 27) (address_of bits + size) (address_of bits) (address_of bits) (address-fits bits)
@@ -161,7 +161,7 @@ new-address bits size small =
     ]
 
 -- the base of a new pattern
-pub new-base : (bits size : ℕ) → size < 2 ^ 64 → base_of (bounded bits size) ≡ pos (bounded_base (address_of bits) size)
+pub new-base : (bits size : ℕ) → size ≤ 2 ^ 64 → base_of (bounded bits size) ≡ pos (bounded_base (address_of bits) size)
 new-base bits size small =
     elim (cases_lt size 4096) [
       | inl few ↦
@@ -176,7 +176,7 @@ new-base bits size small =
     ]
 
 -- the top of a new pattern
-pub new-top : (bits size : ℕ) → size < 2 ^ 64 → top_of (bounded bits size) ≡ pos (bounded_top (address_of bits) size)
+pub new-top : (bits size : ℕ) → size ≤ 2 ^ 64 → top_of (bounded bits size) ≡ pos (bounded_top (address_of bits) size)
 new-top bits size small =
     let address = address_of bits in
     let upper = meta_of bits / 2 ^ 27 in
@@ -197,7 +197,7 @@ new-top bits size small =
     ]
 
 -- the bits of new bounds are below 2^27
-pub bounds-short : (address size : ℕ) → size < 2 ^ 64 → bounds_for address size < 2 ^ 27
+pub bounds-short : (address size : ℕ) → size ≤ 2 ^ 64 → bounds_for address size < 2 ^ 27
 bounds-short address size small =
     elim (cases_lt size 4096) [
       | inl few ↦ subst (λ x. x < 2 ^ 27) (sym (bits-plain address size few)) (plain-short (address + size) address)
@@ -207,3 +207,10 @@ bounds-short address size small =
           (coarse-short e (high-units e address size) (low-units e address) (exponent-fits address size many small).0
           (end-units e (address + size + (2 ^ (e + 3) - 1))).0 (end-units e address).0))
     ]
+
+-- a new pattern has the old bits 63 to 27 of the meta half
+pub new-upper : (bits size : ℕ) → size ≤ 2 ^ 64 → meta_of (bounded bits size) / 2 ^ 27 ≡ meta_of bits / 2 ^ 27
+new-upper bits size small =
+    let bounds = bounds_for (address_of bits) size in
+    let short = bounds-short (address_of bits) size small in
+    ap (λ x. x / 2 ^ 27) (pattern-meta (meta_of bits / 2 ^ 27) bounds (address_of bits) short (address-fits bits)) ∙ shr_high (meta_of bits / 2 ^ 27) 27 bounds short

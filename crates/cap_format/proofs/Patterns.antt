@@ -5,7 +5,7 @@ use Rattle.std.proofs.lemmas.Int.{ints}
 use Rattle.std.proofs.lemmas.Bool.Decides.{nat_tests}
 use Rattle.std.proofs.lemmas.Nat.{pow_pos, shr_high, mod_low, mod_below, div-add-mod', mod-mul-add}
 use Rattle.std.proofs.Math.Nat.{mul-lt-mul_of_pos_right, mod-le}
-use Rattle.cap_format.specs.Pattern.{address_of, meta_of, internal_of, top_field_of, bottom_field_of, exponent_of, top_mantissa_of, bottom_mantissa_of, span_of, base_of}
+use Rattle.cap_format.specs.Pattern.{address_of, meta_of, kind_of, perms_of, internal_of, top_field_of, bottom_field_of, exponent_of, top_mantissa_of, bottom_mantissa_of, span_of, base_of}
 use Rattle.cap_format.specs.SetBounds.{bounds_bits}
 use Rattle.cap_format.proofs.Bases.{base_of-only, window-size}
 use Rattle.cap_format.proofs.Rounding.{pow-sum}
@@ -34,6 +34,17 @@ module _ (upper bounds address : ℕ) (short : bounds < 2 ^ 27) (fits : address 
   -- its B, as it stands
   pub pattern-bottom : bottom_field_of (pattern upper bounds address) ≡ bounds % 2 ^ 14
   pattern-bottom = let m = pattern-meta in rw m (omega arith)
+
+-- the kind stands in bits 63 to 27 of the meta half
+pub upper-kind : (p q : ℕ) → meta_of p / 2 ^ 27 ≡ meta_of q / 2 ^ 27 → kind_of p ≡ kind_of q
+upper-kind p q e = ap (λ x. x % 2 ^ 18) e
+
+-- so do the permissions
+pub upper-perms : (p q : ℕ) → meta_of p / 2 ^ 27 ≡ meta_of q / 2 ^ 27 → perms_of p ≡ perms_of q
+upper-perms p q e = parts (meta_of p) ∙ ap (λ x. x / 2 ^ 21 % 2 ^ 16) e ∙ sym (parts (meta_of q))
+  where
+    parts : (m : ℕ) → m / 2 ^ 48 % 2 ^ 16 ≡ m / 2 ^ 27 / 2 ^ 21 % 2 ^ 16
+    parts m = omega arith
 
 -- T less B, modulo 2^12, is what T is past B modulo 2^12
 pub span-past : (bottom length : ℕ) → span_of ((bottom + length) % 4096) (bottom % 16384) ≡ length % 4096

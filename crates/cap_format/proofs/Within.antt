@@ -136,7 +136,7 @@ held-within bits address size small held =
             let k = exponent_for address size in
             let low : p * 2 ^ (e + 3) ≤ address + 1536 * 2 ^ (e + 3) = omega (arith, ints, base, from) in
             let high : address + size + 1536 * 2 ^ (e + 3) ≤ (p + l) * 2 ^ (e + 3) = omega (arith, ints, base, length, to) in
-            let ends = ends-within p 1536 l e address size low high k (exponent-least address size many small).0 (omega arith) in
+            let ends = ends-within p 1536 l e address size low high k (exponent-least address size many (omega arith)).0 (omega arith) in
             let lower = ends.0 in
             let higher = ends.1 in
             (rw (base-rounded address size many) (omega (arith, ints, base, lower)), rw (top-rounded address size many) (omega (arith, ints, base, length, higher))))
@@ -148,7 +148,7 @@ below-when : (x y : ℤ) → int_le x y ≡ true → x ≤ℤ y
 below-when x y h = grind (arith, ints)
 
 -- bytes that pass the test are within
-held-when : (bits address size : ℕ) → holds bits address size ≡ true → AreHeld bits address size
+pub held-when : (bits address size : ℕ) → holds bits address size ≡ true → AreHeld bits address size
 held-when bits address size h =
     let parts = and_parts (int_le (base_of bits) (pos address)) (int_le (pos (address + size)) (top_of bits)) h in
     record { from = below-when _ _ parts.0; to = below-when _ _ parts.1 }

@@ -1,3 +1,4 @@
+pub mod Numbers
 pub mod Pattern
 pub mod Region
 pub mod Made
@@ -5,3 +6,4 @@ pub mod Rights
 pub mod SetBounds
 pub mod Sealing
 pub mod Moves
+pub mod Code

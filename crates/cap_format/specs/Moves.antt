@@ -1,13 +1,13 @@
--- A capability that moves from one region to another, and the laws of moves for regions of any size.
+-- A capability that moves from one region to another, and the laws of moves for regions of 2^s bytes, s from 12 to 24.
 use Rattle.std.specs.Prelude.{◌≡◌, ℕ, ◌+◌, ◌*◌, ◌/◌, ◌^◌, ◌<◌, ◌≤◌, true, if◌then◌else◌, IsTrue, ℤ, pos, ◌+ℤ◌, ◌-ℤ◌, ◌*ℤ◌, ◌≤ℤ◌, unsigned_abs}
-use Rattle.cap_format.specs.declared.TheConstants.{FIRST_REGION, REGION_BYTES}
+use Rattle.cap_format.specs.Numbers.{first_region, region_bytes, most_regions}
 use Rattle.cap_format.specs.declared.cap.Cap.{Cap}
 use Rattle.cap_format.specs.Pattern.{address_of, meta_of, internal_of, exponent_of, length_mantissa_of, length_of, base_of, top_of}
 use Rattle.cap_format.specs.SetBounds.{bounds_bits}
 
--- the distance from one region to another
+-- the distance from one region to another, in bytes
 abbrev pub distance : ℕ → ℕ → ℤ
-distance from to = (pos to -ℤ pos from) *ℤ pos REGION_BYTES
+distance from to = (pos to -ℤ pos from) *ℤ pos region_bytes
 
 -- The other pattern has the same bits 63 to 27 of the meta half, the same exponent and the same length, and its address
 -- and its base are so much greater.
@@ -33,20 +33,20 @@ moved_by cap by = if cap.tag then record { bits = moved_bits cap.bits by; tag = 
 abbrev pub moved : Cap → ℕ → ℕ → Cap
 moved cap from to = moved_by cap (distance from to)
 
--- The laws hold for regions of 2^s bytes, s from 12 to 24, of which there are up to 64 from the first address on.
+-- The laws hold for regions of 2^s bytes, s from 12 to 24, of which there are up to `most_regions` from `first_region` on.
 pub record IsRegionSize (s : ℕ) : Type 0 where
   pub least : 12 ≤ s
   pub most : s ≤ 24
 
--- the distance from one region of 2^s bytes to another
+-- the distance from one region of 2^s bytes to another, in bytes
 abbrev pub distance_of : ℕ → ℕ → ℕ → ℤ
 distance_of s from to = (pos to -ℤ pos from) *ℤ pos (2 ^ s)
 
 -- base and top lie from the start to the end of a region of 2^s bytes
 pub record IsInsideOf (s bits region : ℕ) : Type 0 where
-  pub region_is : region < 64
-  pub from : pos (FIRST_REGION + region * 2 ^ s) ≤ℤ base_of bits
-  pub to : top_of bits ≤ℤ pos (FIRST_REGION + (region + 1) * 2 ^ s)
+  pub region_is : region < most_regions
+  pub from : pos (first_region + region * 2 ^ s) ≤ℤ base_of bits
+  pub to : top_of bits ≤ℤ pos (first_region + (region + 1) * 2 ^ s)
 
 -- inside, where it is tagged
 abbrev pub IsHeldIn : ℕ → Cap → ℕ → Type 0
@@ -54,13 +54,13 @@ IsHeldIn s cap region = IsTrue cap.tag → IsInsideOf s cap.bits region
 
 -- the function gives the one pattern that is the move
 abbrev pub EachMoveIsOne : Type 0
-EachMoveIsOne = (s bits from to : ℕ) → IsRegionSize s → bits < 2 ^ 128 → to < 64 → IsInsideOf s bits from
+EachMoveIsOne = (s bits from to : ℕ) → IsRegionSize s → bits < 2 ^ 128 → to < most_regions → IsInsideOf s bits from
     → IsMove bits (distance_of s from to) (moved_bits bits (distance_of s from to))
     × ((moved : ℕ) → IsMove bits (distance_of s from to) moved → moved ≡ moved_bits bits (distance_of s from to))
 
 -- a moved capability is inside the region that it went to
 abbrev pub MovesGoInside : Type 0
-MovesGoInside = (s bits from to : ℕ) → IsRegionSize s → bits < 2 ^ 128 → to < 64 → IsInsideOf s bits from → IsInsideOf s (moved_bits bits (distance_of s from to)) to
+MovesGoInside = (s bits from to : ℕ) → IsRegionSize s → bits < 2 ^ 128 → to < most_regions → IsInsideOf s bits from → IsInsideOf s (moved_bits bits (distance_of s from to)) to
 
 -- a move to the same region changes nothing
 abbrev pub MovesToItselfAreNone : Type 0
@@ -68,5 +68,5 @@ MovesToItselfAreNone = (s : ℕ) (cap : Cap) (region : ℕ) → IsRegionSize s �
 
 -- two moves are one move by the sum
 abbrev pub TwoMovesAreOne : Type 0
-TwoMovesAreOne = (s : ℕ) (cap : Cap) (from over to : ℕ) → IsRegionSize s → cap.bits < 2 ^ 128 → over < 64 → to < 64 → IsHeldIn s cap from
+TwoMovesAreOne = (s : ℕ) (cap : Cap) (from over to : ℕ) → IsRegionSize s → cap.bits < 2 ^ 128 → over < most_regions → to < most_regions → IsHeldIn s cap from
     → moved_by (moved_by cap (distance_of s from over)) (distance_of s over to) ≡ moved_by cap (distance_of s from to)

@@ -1,6 +1,6 @@
 -- Sealed entries and fewer permissions. After sealed entry capabilities of the CHERI ISA v9.
 use Rattle.std.specs.Prelude.{ℕ, ◌+◌, ◌*◌, ◌/◌, ◌%◌, ◌^◌, ◌==◌, ◌&&◌, bit_and}
-use Rattle.cap_format.specs.declared.TheConstants.{EXECUTE}
+use Rattle.cap_format.specs.Numbers.{permit_execute}
 use Rattle.cap_format.specs.declared.cap.Cap.{Cap}
 use Rattle.cap_format.specs.Pattern.{perms_of, kind_of}
 use Rattle.cap_format.specs.Rights.{allows}
@@ -19,7 +19,7 @@ and_perms cap mask = record { bits = with_perms_bits cap.bits (bit_and (perms_of
 
 -- A sealed entry: its kind is 1. The tag is kept where it was set, the kind was 0, and it may execute.
 unfoldable pub seal_entry : Cap → Cap
-seal_entry cap = record { bits = with_kind_bits cap.bits 1; tag = cap.tag && ((kind_of cap.bits == 0) && allows cap.bits EXECUTE) }
+seal_entry cap = record { bits = with_kind_bits cap.bits 1; tag = cap.tag && ((kind_of cap.bits == 0) && allows cap.bits permit_execute) }
 
 -- a plain capability again
 unfoldable pub unseal_entry : Cap → Cap

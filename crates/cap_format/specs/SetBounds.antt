@@ -1,9 +1,9 @@
 -- New bounds for a pattern, from its address on.
 -- After CHERI Concentrate (CHERI ISA v9), with rules for the exponent that are this project's own.
-use Rattle.std.specs.Prelude.{ℕ, zero, suc, ◌+◌, ◌-◌, ◌*◌, ◌/◌, ◌%◌, ◌^◌, ◌<◌, ◌≤◌, ◌==◌, ◌&&◌, nat_lt, if◌then◌else◌, Bool}
+use Rattle.std.specs.Prelude.{◌≡◌, ◌↔◌, ℕ, zero, suc, ◌+◌, ◌-◌, ◌*◌, ◌/◌, ◌%◌, ◌^◌, ◌<◌, ◌≤◌, ◌==◌, ◌&&◌, nat_lt, if◌then◌else◌, Bool, false, IsTrue, pos, bit_and}
 use Rattle.cap_format.specs.declared.cap.Cap.{Cap}
 use Rattle.cap_format.specs.declared.cap.Bounded.{Bounded}
-use Rattle.cap_format.specs.Pattern.{address_of, meta_of, kind_of}
+use Rattle.cap_format.specs.Pattern.{address_of, meta_of, kind_of, base_of, top_of}
 use Rattle.cap_format.specs.Rights.{holds}
 
 -- a number rounded to a multiple
@@ -72,14 +72,43 @@ set_bounds cap size = record {
   exact = is_exact (address_of cap.bits) size;
 }
 
--- A length that bounds can have exactly, for an address that is a multiple of the mask's alignment.
-abbrev pub rounded_length : ℕ → ℕ
-rounded_length size = if nat_lt size 4096 then size else up_to size (2 ^ (exponent_for 0 size + 3)) % 2 ^ 64
+-- The size, which from 4096 on is rounded up to a multiple of 2^(E+3), with the exponent for so many bytes from 0 on.
+abbrev pub exact_length : ℕ → ℕ
+exact_length size = if nat_lt size 4096 then size else up_to size (2 ^ (exponent_for 0 size + 3))
 
+-- the same modulo 2^64
+abbrev pub rounded_length : ℕ → ℕ
+rounded_length size = exact_length size % 2 ^ 64
+
+-- the mask of the multiples of 2^(E+3), and below 4096 of all addresses
 abbrev pub align_mask : ℕ → ℕ
 align_mask size = if nat_lt size 4096 then 2 ^ 64 - 1 else 2 ^ 64 - 2 ^ (exponent_for 0 size + 3)
 
--- for each size of 4096 or more there is a least exponent that is enough, and it is below 53
+-- for each size from 4096 on that has 64 bits there is a least exponent that is enough, and it is below 53
 abbrev pub EachHasLeastExponent : Type 0
 EachHasLeastExponent = (address size : ℕ) → address < 2 ^ 64 → 4096 ≤ size → size < 2 ^ 64
     → IsLeastEnough (exponent_for address size) address size × (exponent_for address size < 53)
+
+-- the address has no bit that the mask lacks
+abbrev pub KeepsMask : ℕ → ℕ → Type 0
+KeepsMask address mask = bit_and address mask ≡ address
+
+-- From a pattern's address on the bounds of the exact length are just its bytes, and no shorter length from the size on
+-- has exact bounds.
+pub record HasExactLength (bits size : ℕ) : Type 0 where
+  pub base : base_of (bounded bits (exact_length size)) ≡ pos (address_of bits)
+  pub top : top_of (bounded bits (exact_length size)) ≡ pos (address_of bits + exact_length size)
+  pub least : (length : ℕ) → size ≤ length → length < exact_length size → is_exact (address_of bits) length ≡ false
+
+-- The rounded length is the exact length modulo 2^64. That is from the size to 2^64, and its bounds are exact just where
+-- the address keeps the mask.
+pub record RoundsExactly (bits size : ℕ) : Type 0 where
+  pub rounded : rounded_length size ≡ exact_length size % 2 ^ 64
+  pub from : size ≤ exact_length size
+  pub to : exact_length size ≤ 2 ^ 64
+  pub exact : IsTrue (is_exact (address_of bits) (exact_length size)) ↔ KeepsMask (address_of bits) (align_mask size)
+  pub kept : KeepsMask (address_of bits) (align_mask size) → HasExactLength bits size
+
+-- each size of 64 bits does, at the address of each pattern
+abbrev pub RoundedLengthsAreExact : Type 0
+RoundedLengthsAreExact = (bits size : ℕ) → size < 2 ^ 64 → RoundsExactly bits size

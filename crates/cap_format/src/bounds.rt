@@ -2,7 +2,7 @@
 ghost use Rattle.std.specs.Prelude.{◌≡◌, ◌<◌, ◌+◌, ◌*◌, ◌/◌, ◌%◌, ◌^◌, pos, ◌<ℤ◌};
 ghost use Rattle.cap_format.specs.Pattern.{base_at, span_of};
 
-// The size of a window of bases, in bytes.
+// The size of a window of bases: `2^(exponent + 14)` bytes.
 fn window_bytes(exponent: u32) -> i128
     requires { exponent < 64 }
     ensures is { result ≡ pos (2 ^ (exponent + 14)) }
@@ -33,7 +33,7 @@ fn block_in_window(address: u64, exponent: u32) -> u32
     (u128::from(address) / (1u128 << (exponent + 11)) % 8) as u32
 }
 
-// The base, for this address, this exponent and this B.
+// The base in bytes, for this address, this exponent and this B.
 //
 // The base has the address's bits from `exponent + 14` on. These are corrected by one where the base and
 // the address lie in different multiples of `2^(exponent + 14)`, which the three bits below them tell.

@@ -26,7 +26,7 @@ pub struct Bounded {
 }
 
 impl Cap {
-    ghost use Rattle.cap_format.specs.Made.{null, from_int, root, with_address};
+    ghost use Rattle.cap_format.specs.Made.{null, from_int, capability_of, root, with_address};
     ghost use Rattle.cap_format.specs.Region.{region_start, IsInside};
     ghost use Rattle.cap_format.specs.SetBounds.{set_bounds, bounded_base, bounded_top};
     ghost use Rattle.cap_format.specs.Sealing.{with_perms_bits, with_kind_bits, and_perms, seal_entry, unseal_entry};
@@ -53,13 +53,15 @@ impl Cap {
         }
     }
 
-    /// The capability of a whole region: tagged and plain, with the region's start as its address.
+    /// The capability of a whole region: tagged and plain, with the region's start as its address and its base, and
+    /// the region's end as its top.
     ///
     /// `region` is below [`MOST_REGIONS`], and `perms` has only bits of [`ALL_PERMISSIONS`].
     pub fn root(region: u32, perms: u16) -> Cap
         requires region { region < MOST_REGIONS }
         requires perms { bit_and perms ALL_PERMISSIONS ≡ perms }
         ensures is { result ≡ root region perms }
+        ensures tag { IsTrue result.tag }
         ensures address { address_of result.bits ≡ region_start region }
         ensures base { base_of result.bits ≡ pos (region_start region) }
         ensures top { top_of result.bits ≡ pos (region_start region + REGION_BYTES) }
@@ -67,8 +69,22 @@ impl Cap {
         ensures plain { kind_of result.bits ≡ 0 }
     {
         let start = FIRST_REGION + u64::from(region) * REGION_BYTES;
+        Cap::covering(start, REGION_BYTES, perms)
+    }
+
+    // A tagged plain capability with these permissions, this address, and bounds of `size` bytes from there on,
+    // rounded outwards where they can't be had exactly.
+    fn covering(address: u64, size: u64, perms: u16) -> Cap
+        ensures is { result ≡ capability_of address size perms }
+        ensures address { address_of result.bits ≡ address }
+        ensures base { base_of result.bits ≡ pos (bounded_base address size) }
+        ensures top { top_of result.bits ≡ pos (bounded_top address size) }
+        ensures perms { perms_of result.bits ≡ perms }
+        ensures plain { kind_of result.bits ≡ 0 }
+    {
+        let bounds = new_bounds(address, size);
         Cap {
-            bits: joined(root_meta(region, perms), start),
+            bits: joined(u64::from(perms) << 48 | bounds.bits, address),
             tag: true,
         }
     }
@@ -87,14 +103,14 @@ impl Cap {
         (self.bits >> 64) as u64
     }
 
-    /// The permissions, as bits.
+    /// The permissions, as 16 bits: those of [`ALL_PERMISSIONS`], and others without a meaning.
     pub fn perms(self) -> u16
         ensures { result ≡ perms_of self.bits }
     {
         (self.meta() >> 48) as u16
     }
 
-    /// The kind: 0 for a plain capability, and 1 for a sealed entry. Other kinds are sealed too.
+    /// The kind: 0 for a plain capability, and 1 for a sealed entry. Other kinds, all below `2^18`, are sealed too.
     pub fn kind(self) -> u32
         ensures kind { result ≡ kind_of self.bits }
         ensures small { result < 2 ^ 18 }
@@ -116,20 +132,21 @@ impl Cap {
         (self.meta() >> 26) % 2 == 1
     }
 
-    // T and B, as they stand.
+    // T, as it stands: 12 bits.
     fn top_field(self) -> u32
         ensures { result ≡ top_field_of self.bits }
     {
         ((self.meta() >> 14) % (1 << 12)) as u32
     }
 
+    // B, as it stands: 14 bits.
     fn bottom_field(self) -> u32
         ensures { result ≡ bottom_field_of self.bits }
     {
         (self.meta() % (1 << 14)) as u32
     }
 
-    /// The exponent: bounds are multiples of 2 to this power. It is at most 63.
+    /// The exponent, at most 63: base and length are multiples of 2 to this power, in bytes.
     pub fn exponent(self) -> u32
         ensures exponent { result ≡ exponent_of self.bits }
         ensures small { result < 64 }
@@ -141,6 +158,7 @@ impl Cap {
         }
     }
 
+    // T, without the bits of an internal exponent.
     fn top_mantissa(self) -> u32
         ensures top { result ≡ top_mantissa_of self.bits }
         ensures small { result < 2 ^ 12 }
@@ -153,6 +171,7 @@ impl Cap {
         }
     }
 
+    // B, without the bits of an internal exponent.
     fn bottom_mantissa(self) -> u32
         ensures bottom { result ≡ bottom_mantissa_of self.bits }
         ensures small { result < 2 ^ 14 }
@@ -165,7 +184,7 @@ impl Cap {
         }
     }
 
-    // The length, in units of 2 to the exponent.
+    // The length, in units of 2 to the exponent. It is below `2^13`.
     fn length_mantissa(self) -> u32
         ensures length { result ≡ length_mantissa_of self.bits }
         ensures small { result < 2 ^ 13 }
@@ -226,14 +245,15 @@ impl Cap {
         }
     }
 
-    /// Whether it has each of these permissions, whatever its tag and its kind.
+    /// Whether it has each of these permissions, given as bits, whatever its tag and its kind.
     pub fn allows(self, permissions: u16) -> bool
         ensures { result ≡ allows self.bits permissions }
     {
         self.perms() & permissions == permissions
     }
 
-    /// Whether the `size` bytes from an address lie within the bounds, whatever the tag and the kind.
+    /// Whether the `size` bytes from an address on lie within the bounds, whatever the tag and the kind. The end of
+    /// the bytes does not wrap.
     pub fn holds(self, address: u64, size: u64) -> bool
         ensures { result ≡ holds self.bits address size }
     {
@@ -318,7 +338,9 @@ impl Cap {
         }
     }
 
-    /// Whether the base and the top lie from the start to the end of a region, both counted.
+    /// Whether the base and the top lie from the start to the end of a region, both counted, whatever the tag.
+    ///
+    /// `region` may be any number: it begins at `FIRST_REGION + region * REGION_BYTES`.
     pub fn inside(self, region: u32) -> bool
         ensures { IsTrue result ↔ IsInside self.bits region }
     {
@@ -327,7 +349,7 @@ impl Cap {
     }
 
     /// The capability in another region: the same but for its address and its bounds, which lie the distance of
-    /// the regions further on. An untagged one stays as it is.
+    /// the regions in bytes further on. An untagged one stays as it is.
     ///
     /// Both regions are below [`MOST_REGIONS`], and a tagged capability is inside `from`.
     pub fn moved(self, from: u32, to: u32) -> Cap
@@ -409,7 +431,7 @@ impl Cap {
 
     // The meta half in another region: only B differs, by the distance in units of 2 to the exponent.
     //
-    // With 64 regions more the distance is never negative. They are 0 modulo 2^14 units.
+    // With `MOST_REGIONS` regions more the distance is never negative. So many are 0 modulo `2^14` units.
     fn moved_meta(self, from: u32, to: u32) -> u64
         requires from { from < MOST_REGIONS }
         requires to { to < MOST_REGIONS }
@@ -434,11 +456,4 @@ fn joined(meta: u64, address: u64) -> u128
     ensures { result ≡ meta * 2 ^ 64 + address }
 {
     u128::from(meta) << 64 | u128::from(address)
-}
-
-// The meta half of a region's root.
-fn root_meta(region: u32, perms: u16) -> u64
-    ensures { result ≡ perms * 2 ^ 48 + 2 ^ 26 + 2 ^ 14 + region % 4 * 2 ^ 12 }
-{
-    u64::from(perms) << 48 | 1 << 26 | 1 << 14 | u64::from(region % 4) << 12
 }

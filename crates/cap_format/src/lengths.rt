@@ -1,11 +1,13 @@
-// Lengths and alignments that bounds can have exactly.
+// Lengths whose bounds are exact, and the addresses at which they are.
 ghost use Rattle.std.specs.Prelude.{◌≡◌};
 ghost use Rattle.cap_format.specs.SetBounds.{rounded_length, align_mask};
 
 use crate::set_bounds::{LEAST_ROUNDED, high_end, least_exponent};
 
-/// The least length from `n` bytes on that bounds can have exactly, modulo `2^64`, where their address is a
-/// multiple of what [`align_mask`] asks for. Below 4096 it is `n`.
+/// The least length from `n` on, in bytes, whose bounds are exact at an address that keeps the mask that
+/// [`align_mask`] gives for `n`. Below 4096 it is `n`.
+///
+/// It is taken modulo `2^64`: where the least length is `2^64`, the most that it can be, this is 0.
 pub fn rounded_length(n: u64) -> u64
     ensures { result ≡ rounded_length n }
 {
@@ -16,8 +18,11 @@ pub fn rounded_length(n: u64) -> u64
     }
 }
 
-/// The mask that an address has to keep so that bounds of `n` bytes from it on are exact: it clears the low
-/// bits. Below 4096 bytes it has all bits.
+/// The mask that an address has to keep so that bounds of `n` bytes, rounded up, are exact from it on: bounds of the
+/// length that [`rounded_length`] gives before it is taken modulo `2^64`. Bounds of `n` bytes need not be.
+///
+/// An address keeps the mask where it has no bit that the mask lacks, and the mask lacks low bits alone. Below 4096
+/// bytes it has all 64 bits.
 pub fn align_mask(n: u64) -> u64
     ensures { result ≡ align_mask n }
 {

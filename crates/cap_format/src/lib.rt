@@ -14,8 +14,9 @@ mod tests;
 
 pub use cap::{Bounded, Cap};
 pub use laws::{
-    each_has_least_exponent, each_has_one_base, each_move_is_one, keeps_bounds_within,
-    moves_go_inside, moves_to_itself_are_none, two_moves_are_one,
+    code_goes_on, code_moves, constants_are_fixed, each_has_least_exponent, each_has_one_base,
+    each_move_is_one, keeps_bounds_within, moves_go_inside, moves_to_itself_are_none,
+    rounded_lengths_are_exact, two_moves_are_one,
 };
 pub use lengths::{align_mask, rounded_length};
 
@@ -25,13 +26,13 @@ pub const FIRST_REGION: u64 = 0x1_0000_0000;
 /// The size of a region, in bytes.
 pub const REGION_BYTES: u64 = 0x10_0000;
 
-/// The pages of a region.
+/// The pages of a region: `REGION_BYTES / PAGE_BYTES`.
 pub const REGION_PAGES: u32 = 256;
 
 /// The size of a page, in bytes.
 pub const PAGE_BYTES: usize = 4096;
 
-/// The granules of a page.
+/// The granules of a page: `PAGE_BYTES / GRANULE_BYTES`.
 pub const PAGE_GRANULES: usize = 256;
 
 /// The size of a granule, which has one tag, in bytes.
@@ -46,7 +47,7 @@ pub const IMAGE_BYTES: usize = 4_194_304;
 /// The most bytes of an image's table of relocations.
 pub const TABLE_BYTES: u64 = 2_621_440;
 
-/// The number of regions.
+/// The number of regions. Region `i` begins at `FIRST_REGION + i * REGION_BYTES`.
 pub const MOST_REGIONS: u32 = 64;
 
 /// The permission to fetch instructions.
@@ -64,5 +65,5 @@ pub const LOAD_CAPABILITY: u16 = 1 << 4;
 /// The permission to store tagged capabilities.
 pub const STORE_CAPABILITY: u16 = 1 << 5;
 
-/// All five permissions.
+/// All five permissions. The other bits of the 16 have no meaning.
 pub const ALL_PERMISSIONS: u16 = EXECUTE | LOAD | STORE | LOAD_CAPABILITY | STORE_CAPABILITY;

@@ -5,7 +5,7 @@ ghost use Rattle.cap_format.specs.SetBounds.{low_end, high_end, exponent_for, bo
 // The least size whose bounds have an internal exponent, in bytes.
 pub const LEAST_ROUNDED: u64 = 4096;
 
-// The ends of new bounds, and the bits that say them.
+// The ends of new bounds, in bytes, and the 27 bits that say them: IE, T and B.
 #[derive(Clone, Copy)]
 pub struct NewBounds {
     pub base: u128,
@@ -22,7 +22,7 @@ impl NewBounds {
     }
 }
 
-// The address rounded down to a multiple of `2^(exponent + 3)`.
+// The address rounded down to a multiple of `2^(exponent + 3)` bytes.
 fn low_end(address: u64, exponent: u32) -> u128
     requires { exponent < 64 }
     ensures is { result ≡ low_end exponent address }
@@ -32,7 +32,7 @@ fn low_end(address: u64, exponent: u32) -> u128
     u128::from(address) / unit * unit
 }
 
-// The end of the bytes from the address on, rounded up to a multiple of `2^(exponent + 3)`.
+// The end of the bytes from the address on, rounded up to a multiple of `2^(exponent + 3)` bytes.
 pub fn high_end(address: u64, size: u64, exponent: u32) -> u128
     requires { exponent < 64 }
     ensures is { result ≡ high_end exponent address size }
@@ -44,7 +44,7 @@ pub fn high_end(address: u64, size: u64, exponent: u32) -> u128
     (end + (unit - 1)) / unit * unit
 }
 
-// The least exponent for bounds of this size.
+// The least exponent for bounds of this size, which is at least `LEAST_ROUNDED`. It is below 53.
 //
 // The place of the size's top bit gives it, but where rounding outwards makes the bounds longer by one more bit.
 pub fn least_exponent(address: u64, size: u64) -> u32
@@ -61,14 +61,14 @@ pub fn least_exponent(address: u64, size: u64) -> u32
     }
 }
 
-// The bits of IE, T and B, for bounds whose exponent does not stand in them.
+// The bits of IE, T and B, for bounds whose exponent does not stand in them. The ends are in bytes.
 fn plain_bits(top: u128, bottom: u128) -> u64
     ensures { result ≡ bounds_bits 0 0 top bottom }
 {
     ((top % (1 << 12)) << 14 | bottom % (1 << 14)) as u64
 }
 
-// The bits of IE, T and B, for bounds with an internal exponent.
+// The bits of IE, T and B, for bounds with an internal exponent. The ends are in units of `2^exponent` bytes.
 fn internal_bits(exponent: u32, top: u128, bottom: u128) -> u64
     requires { exponent < 64 }
     ensures { result ≡ bounds_bits 1 exponent top bottom }
@@ -78,7 +78,7 @@ fn internal_bits(exponent: u32, top: u128, bottom: u128) -> u64
     ((1 << 26) + (high << 14) + low) as u64
 }
 
-// The bounds of less than 4096 bytes: just these.
+// The bounds of fewer than `LEAST_ROUNDED` bytes: just these.
 fn exact_bounds(address: u64, size: u64) -> NewBounds
     requires { size < LEAST_ROUNDED }
     ensures base { result.base ≡ bounded_base address size }
@@ -94,7 +94,7 @@ fn exact_bounds(address: u64, size: u64) -> NewBounds
     }
 }
 
-// The bounds of 4096 bytes or more, with both ends rounded outwards.
+// The bounds of `LEAST_ROUNDED` bytes or more, with both ends rounded outwards.
 fn rounded_bounds(address: u64, size: u64) -> NewBounds
     requires { LEAST_ROUNDED ≤ size }
     ensures base { result.base ≡ bounded_base address size }

@@ -1,13 +1,14 @@
 -- What one instruction does, over a machine whose region 0 has one page, which may be read and executed.
 -- The order of the tests is this project's own.
-use Rattle.std.specs.Prelude.{◌≡◌, ℕ, ◌+◌, ◌-◌, ◌%◌, ◌&&◌, Bool, nat_lt, nat_le, if◌then◌else◌, IsTrue, List, Result, Ok, Err, Some, None}
+use Rattle.std.specs.Prelude.{◌≡◌, ℕ, ◌+◌, ◌-◌, ◌&&◌, Bool, nat_lt, nat_le, if◌then◌else◌, IsTrue, List, Result, Ok, Err, Some, None}
 use Rattle.std.specs.declared.option.Option.{Option}
-use Rattle.cap_format.specs.declared.TheConstants.{FIRST_REGION, PAGE_BYTES, EXECUTE}
+use Rattle.cap_format.specs.Numbers.{first_region, page_bytes}
 use Rattle.cap_format.specs.declared.cap.Cap.{Cap}
-use Rattle.cap_format.specs.Pattern.{address_of, kind_of}
-use Rattle.cap_format.specs.Rights.{allows, holds}
+use Rattle.cap_format.specs.Pattern.{address_of}
+use Rattle.cap_format.specs.Rights.{holds}
 use Rattle.cap_format.specs.Made.{with_address}
 use Rattle.cap_format.specs.Region.{IsInside}
+use Rattle.cap_format.specs.Code.{IsCode}
 use Rattle.machine_types.specs.declared.cause.Cause.{Cause}
 use Rattle.machine_types.specs.declared.cause.Cause.TheVariants.{BadInstruction, Breakpoint, CodeBounds, CodePage}
 use Rattle.cheri_step.specs.declared.first.FirstEnd.{FirstEnd}
@@ -64,14 +65,14 @@ executed registers pcc (Some instr) = performed registers pcc instr
 
 -- the address lies on page 0 of region 0
 abbrev pub is_on_page : ℕ → Bool
-is_on_page address = nat_le FIRST_REGION address && nat_lt address (FIRST_REGION + PAGE_BYTES)
+is_on_page address = nat_le first_region address && nat_lt address (first_region + page_bytes)
 
 -- The fetch: the four bytes lie in the bounds of PCC, and then the page is there.
 abbrev pub fetched : Cap → List ℕ → Result ℕ Cause
 fetched pcc page =
     let address = address_of pcc.bits in
     if holds pcc.bits address 4
-    then (if is_on_page address then Ok (word_at page (address - FIRST_REGION)) else Err CodePage)
+    then (if is_on_page address then Ok (word_at page (address - first_region)) else Err CodePage)
     else Err CodeBounds
 
 abbrev pub effect_of : List Cap → Cap → Result ℕ Cause → Effect
@@ -87,13 +88,6 @@ pub record HasEffect (effect : Effect) (end : FirstEnd) (registers : List Cap) (
   pub end_is : end ≡ effect.end
   pub registers_are : registers ≡ effect.registers
   pub pcc_is : pcc ≡ effect.pcc
-
--- PCC is tagged and plain, may execute, and is at a multiple of four
-pub record IsCode (pcc : Cap) : Type 0 where
-  pub tagged : IsTrue pcc.tag
-  pub plain : kind_of pcc.bits ≡ 0
-  pub executes : IsTrue (allows pcc.bits EXECUTE)
-  pub aligned : address_of pcc.bits % 4 ≡ 0
 
 -- PCC is code, and PCC and each tagged register lie inside the region
 pub record IsSound (registers : List Cap) (pcc : Cap) (region : ℕ) : Type 0 where

@@ -6,7 +6,8 @@ ghost use Rattle.cap_format.specs.Region.{IsInside};
 ghost use Rattle.std.specs.Option.{ForSome};
 ghost use Rattle.riscv_decode.specs.Table.{IsInRange};
 ghost use Rattle.riscv_decode.specs.Decoded.{decoded};
-ghost use Rattle.cheri_step.specs.Effect.{first_effect, fetched, executed, performed, gives, gives_if, next_pcc, IsCode, IsSound, WasFetched, HasEffect, IsAfter};
+ghost use Rattle.cheri_step.specs.Effect.{first_effect, fetched, executed, performed, gives, gives_if, next_pcc, IsSound, WasFetched, HasEffect, IsAfter};
+ghost use Rattle.cap_format.specs.Code.{IsCode};
 
 use crate::results::{imm_result, one_result, reg_result, upper_result};
 use cap_format::{Cap, FIRST_REGION, PAGE_BYTES};

@@ -2,7 +2,7 @@
 -- ELF64 file header and program header (System V ABI), with numbers in little-endian order.
 use Rattle.std.specs.Prelude.{ℕ, ◌-◌, Bool, ◌&&◌, nat_lt, nat_le, List, ◌∷◌, ◌++◌, length, take, replicate, bytes_eq}
 use Rattle.std.specs.Int.{w16, w32, w64, to_le_bytes}
-use Rattle.elf_loader.specs.declared.TheConstants.{HEADER_BYTES, FIRST_IMAGE_BYTES}
+use Rattle.elf_loader.specs.Numbers.{header_bytes, first_image_bytes}
 
 -- numbers of 2, 4 and 8 bytes
 abbrev pub half : ℕ → List ℕ
@@ -30,8 +30,8 @@ program_header size = word 1 ++ (word 5 ++ (quad 4096 ++ (quad 0 ++ (quad 0 ++ (
 
 -- the headers, and zeros up to a page
 abbrev pub header_block : ℕ → List ℕ
-header_block size = file_header ++ (program_header size ++ replicate (HEADER_BYTES - 120) 0)
+header_block size = file_header ++ (program_header size ++ replicate (header_bytes - 120) 0)
 
 -- A first image is the header block and 1 to 4096 bytes of code and data, for which the headers stand.
 unfoldable pub is_first_image : List ℕ → Bool
-is_first_image bytes = nat_lt HEADER_BYTES (length bytes) && (nat_le (length bytes) FIRST_IMAGE_BYTES && bytes_eq (take HEADER_BYTES bytes) (header_block (length bytes - HEADER_BYTES)))
+is_first_image bytes = nat_lt header_bytes (length bytes) && (nat_le (length bytes) first_image_bytes && bytes_eq (take header_bytes bytes) (header_block (length bytes - header_bytes)))

@@ -61,7 +61,8 @@ fn is_zero(bytes: &[u8]) -> bool
 
 /// Whether a file is a first image.
 ///
-/// It has 4097 to 8192 bytes. The first 4096 are the ELF64 headers of one segment that is read and executed,
+/// It has more than [`HEADER_BYTES`](crate::HEADER_BYTES) and at most [`FIRST_IMAGE_BYTES`](crate::FIRST_IMAGE_BYTES)
+/// bytes. The first [`HEADER_BYTES`](crate::HEADER_BYTES) are the ELF64 headers of one segment that is read and executed,
 /// at offset 0, with entry 0, and zeros; `filesz` and `memsz` are both the number of the bytes after them.
 pub fn first_image(bytes: &[u8]) -> bool
     ensures is { result ≡ is_first_image bytes.now }

@@ -4,8 +4,10 @@
 #![tactic(auto)]
 
 mod first_images;
+mod laws;
 
 pub use first_images::first_image;
+pub use laws::constants_are_fixed;
 
 /// The size of the block of headers, in bytes: one page.
 pub const HEADER_BYTES: usize = 4096;

@@ -8,12 +8,12 @@ use machine_types::{FrameNo, NoMemory};
 use std::alloc::Global;
 use std::marker::Model;
 
-/// Whether a frame that a page left is shared by others still.
+/// Whether a frame that a page left is shared by other pages still.
 #[derive(Clone, Copy, Debug, PartialEq, Eq)]
 pub enum Left {
     /// No sharer is left.
     Last,
-    /// Others are left.
+    /// At least one sharer is left.
     Shared,
 }
 
@@ -24,7 +24,9 @@ struct Share {
     sharers: u32,
 }
 
-/// The home and the number of sharers of each frame that was made.
+/// The home and the number of sharers of each frame that was made, at most [`MOST_FRAMES`]. A home is a region, below
+/// [`MOST_REGIONS`], and the sharers of a frame are the pages that have it. Frames are numbered from 0 on, and a frame
+/// that a call names is one of those that were made.
 #[derive(Drop)]
 pub struct Owners {
     shares: Vec<Share>,
@@ -45,7 +47,8 @@ impl Model for Owners {
 impl Owners {
     ghost use Rattle.frame_owners.specs.Homes.{nobody, owner, with_owner};
 
-    /// Owners of so many frames, from 1 to [`MOST_FRAMES`]: nobody has them. It takes all its memory at once.
+    /// Owners of so many frames, from 1 to [`MOST_FRAMES`]: nobody has them, so they have no sharers, and region 0 as
+    /// their home. It takes all its memory at once, and [`NoMemory`] comes where that is not to be had.
     pub fn new(alloc: Global, frames: u32) -> Result<Owners, NoMemory>
         requires least { 1 ≤ frames }
         requires most { frames ≤ MOST_FRAMES }
@@ -61,7 +64,7 @@ impl Owners {
         }
     }
 
-    /// One page has the frame, which nobody had. Its home is this region, below 64.
+    /// One page has the frame, which nobody had. Its home is this region, below [`MOST_REGIONS`]. All other frames stay.
     pub fn begin(&mut self, f: FrameNo, home: u32)
         requires frame { f.0 < length self.old }
         requires home { home < MOST_REGIONS }
@@ -71,7 +74,7 @@ impl Owners {
         self.shares[f.0 as usize] = Share { home, sharers: 1 };
     }
 
-    /// One page more shares the frame, which has from 1 to [`MOST_SHARERS`] sharers.
+    /// One page more shares the frame, which has from 1 to [`MOST_SHARERS`] sharers. Its home and all other frames stay.
     pub fn join(&mut self, f: FrameNo)
         requires frame { f.0 < length self.old }
         requires shared { 1 ≤ (owner self.old f.0).sharers }
@@ -82,7 +85,8 @@ impl Owners {
         share.sharers += 1;
     }
 
-    /// One page leaves the frame, which has a sharer. Last comes exactly where none is left.
+    /// One page leaves the frame, which has at least one sharer. [`Left::Last`] comes exactly where none is left. Its home
+    /// and all other frames stay.
     pub fn leave(&mut self, f: FrameNo) -> Left
         requires frame { f.0 < length self.old }
         requires shared { 1 ≤ (owner self.old f.0).sharers }
@@ -105,7 +109,7 @@ impl Owners {
         self.shares.len() as u32
     }
 
-    /// The home of the frame, which is a region below 64.
+    /// The home of the frame, which is a region below [`MOST_REGIONS`].
     pub fn home(&self, f: FrameNo) -> u32
         requires { f.0 < length self.now }
         ensures is { result ≡ (owner self.now f.0).home }
@@ -114,7 +118,7 @@ impl Owners {
         self.shares[f.0 as usize].home
     }
 
-    /// Makes this region, below 64, the home of the frame.
+    /// Makes this region, below [`MOST_REGIONS`], the home of the frame. Its sharers and all other frames stay.
     pub fn set_home(&mut self, f: FrameNo, region: u32)
         requires frame { f.0 < length self.old }
         requires region { region < MOST_REGIONS }
@@ -124,7 +128,7 @@ impl Owners {
         share.home = region;
     }
 
-    /// How many pages share the frame.
+    /// How many pages share the frame, which is 0 where nobody has it.
     pub fn sharers(&self, f: FrameNo) -> u32
         requires { f.0 < length self.now }
         ensures { result ≡ (owner self.now f.0).sharers }

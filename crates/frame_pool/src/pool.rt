@@ -7,7 +7,8 @@ use machine_types::{FrameNo, NoMemory};
 use std::alloc::Global;
 use std::marker::Model;
 
-/// Which of the frames from 0 to below the size are used.
+/// Which of the frames are used. Frames are numbered from 0 on, and the pool is of those below its size, which is at most
+/// the number that was made, and that at most [`MOST_FRAMES`].
 #[derive(Drop)]
 pub struct FramePool {
     used: Vec<bool>,
@@ -27,7 +28,8 @@ impl Model for FramePool {
 }
 
 impl FramePool {
-    /// A pool of `n` frames, from 1 to [`MOST_FRAMES`], none of them used. It takes all its memory at once.
+    /// A pool of `n` frames, from 1 to [`MOST_FRAMES`], none of them used. It takes all its memory at once, and
+    /// [`NoMemory`] comes where that is not to be had.
     pub fn new(alloc: Global, n: u32) -> Result<FramePool, NoMemory>
         requires least { 1 ≤ n }
         requires most { n ≤ MOST_FRAMES }
@@ -39,21 +41,21 @@ impl FramePool {
         }
     }
 
-    /// How many frames were made.
+    /// How many frames were made: the greatest size that the pool can have.
     pub fn made(&self) -> u32
         ensures { result ≡ length self.now.used }
     {
         self.used.len() as u32
     }
 
-    /// How many frames the pool is of, used or not.
+    /// How many frames the pool is of, used or not: at most the number that was made.
     pub fn size(&self) -> u32
         ensures { result ≡ self.now.size }
     {
         self.size
     }
 
-    /// Makes the pool one of `n` frames, from 1 to the number that was made. No frame is used.
+    /// Makes the pool, of which no frame is used, one of `n` frames, from 1 to the number that was made.
     pub fn set_size(&mut self, n: u32)
         requires none { used_count self.old ≡ 0 }
         requires least { 1 ≤ n }
@@ -63,7 +65,8 @@ impl FramePool {
         self.size = n;
     }
 
-    /// Takes the least frame that isn't used. None comes exactly where all are used, and changes nothing.
+    /// Takes the least frame below the size that isn't used: it is used then. None comes exactly where all frames below
+    /// the size are used, and changes nothing.
     pub fn take(&mut self) -> Option<FrameNo>
         ensures least { IfSome result (λ frame. IsLeastFree self.old frame.0) }
         ensures after { MatchOption result (self.new ≡ self.old) (λ frame. self.new ≡ with_used self.old frame.0 true) }
@@ -75,7 +78,7 @@ impl FramePool {
         Some(FrameNo(frame))
     }
 
-    /// Gives back a frame that is used.
+    /// Gives back a frame that is used: it isn't used then. All others stay as they are.
     pub fn give(&mut self, f: FrameNo)
         requires { is_used self.old f.0 ≡ true }
         ensures after { self.new ≡ with_used self.old f.0 false }
@@ -84,14 +87,14 @@ impl FramePool {
         self.used[f.0 as usize] = false;
     }
 
-    /// How many frames are used.
+    /// How many frames are used, from 0 to the size.
     pub fn used(&self) -> u32
         ensures { result ≡ used_count self.now }
     {
         self.used.iter().filter(|used| **used).count() as u32
     }
 
-    /// How many frames aren't used.
+    /// How many frames below the size aren't used, from 0 to the size.
     pub fn free(&self) -> u32
         ensures { result + used_count self.now ≡ self.now.size }
     {

@@ -1,2 +1,10 @@
 pub mod RegisterLemmas
 pub mod PageNumbers
+pub mod NumberBits
+pub mod NumberBytes
+pub mod StoredNumbers
+pub mod StoredBytes
+pub mod PagesMade
+pub mod MovedPages
+pub mod RightBits
+pub mod HeldRoots

@@ -52,13 +52,13 @@ with_companions from to (m ∷ members) =
 abbrev pub shared_class : ℕ → ℕ → Class → Class
 shared_class from to class = record class { members = with_companions from to class.members }
 
--- The account at a fork. Under `full` each page of the parent gives a new class with the child's region as home, and
--- None stands for fewer free frames than pages.
+-- The account at a fork, where so many frames are free. Under `full` each page of the parent gives a new class with the
+-- child's region as home, and None stands for fewer free frames than pages.
 unfoldable pub account_at_fork : Rule → ℕ → List Class → ℕ → ℕ → List ℕ → Option (List Class)
-account_at_fork Full frames account from to pages =
-    if nat_lt (free frames account) (length pages) then None else Some (account ++ map (class_for to) pages)
-account_at_fork Access frames account from to pages = Some (map (shared_class from to) account)
-account_at_fork Pointer frames account from to pages = Some (map (shared_class from to) account)
+account_at_fork Full free account from to pages =
+    if nat_lt free (length pages) then None else Some (account ++ map (class_for to) pages)
+account_at_fork Access free account from to pages = Some (map (shared_class from to) account)
+account_at_fork Pointer free account from to pages = Some (map (shared_class from to) account)
 
 -- The account when a region ends: its members leave, and classes without members go.
 abbrev pub without_region : ℕ → Class → Class

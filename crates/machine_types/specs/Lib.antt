@@ -1,9 +1,12 @@
+pub mod Numbers
 pub mod Causes
 pub mod Errors
 pub mod Registers
+pub mod Lists
 pub mod Granules
 pub mod Stores
 pub mod Held
 pub mod Rights
 pub mod Accounts
 pub mod Touches
+pub mod MemoryLaws

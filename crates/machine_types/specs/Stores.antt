@@ -2,7 +2,7 @@
 use Rattle.std.specs.Prelude.{ℕ, zero, suc, ◌≡◌, ◌≤◌, ◌+◌, ◌==◌, ◌&&◌, nat_lt, if◌then◌else◌, is_some, Option, Some, None, List, [], ◌∷◌, ◌++◌, length, map, replicate}
 use Rattle.std.specs.List.{list_any}
 use Rattle.std.specs.Option.{option_map}
-use Rattle.cap_format.specs.declared.TheConstants.{REGION_PAGES, PAGE_GRANULES}
+use Rattle.cap_format.specs.Numbers.{region_pages, page_granules}
 use Rattle.cap_format.specs.declared.cap.Cap.{Cap}
 use Rattle.cap_format.specs.Made.{null}
 use Rattle.cap_format.specs.Moves.{moved}
@@ -18,8 +18,8 @@ Store = ℕ → Option Page
 
 -- There is nothing past the last page of a region, and each page has 256 granules.
 pub record IsStore (store : Store) : Type 0 where
-  pub past : (page : ℕ) → REGION_PAGES ≤ page → store page ≡ None
-  pub granules : (page : ℕ) (p : Page) → store page ≡ Some p → length p.granules ≡ PAGE_GRANULES
+  pub past : (page : ℕ) → region_pages ≤ page → store page ≡ None
+  pub granules : (page : ℕ) (p : Page) → store page ≡ Some p → length p.granules ≡ page_granules
 
 -- a function with another value at one number
 abbrev pub changed : {A : Type 0} → (ℕ → A) → ℕ → A → ℕ → A
@@ -29,8 +29,8 @@ abbrev pub empty_store : Store
 empty_store page = None
 
 -- these bytes and then zeros, without a tag
-abbrev pub page_of : ℕ → List ℕ → Page
-page_of rights bytes = record { rights = rights; granules = with_bytes (replicate PAGE_GRANULES null) 0 bytes }
+abbrev pub page_of_bytes : ℕ → List ℕ → Page
+page_of_bytes rights bytes = record { rights = rights; granules = with_bytes (replicate page_granules null) 0 bytes }
 
 -- a page with its granules changed
 abbrev pub page_with : (List Cap → List Cap) → Page → Page
@@ -58,7 +58,7 @@ pages_below store zero = []
 pages_below store (suc n) = if is_some (store n) then pages_below store n ++ (n ∷ []) else pages_below store n
 
 unfoldable pub page_numbers : Store → List ℕ
-page_numbers store = pages_below store REGION_PAGES
+page_numbers store = pages_below store region_pages
 
 -- each number is at least the first and more than the one before
 abbrev pub AreRising : ℕ → List ℕ → Type 0
@@ -68,4 +68,4 @@ AreRising least (n ∷ numbers) = (least ≤ n) × AreRising (n + 1) numbers
 -- The page numbers rise, and are those of the pages that the store has.
 pub record PagesAreNumbered : Type 0 where
   pub rising : (store : Store) → AreRising 0 (page_numbers store)
-  pub all : (store : Store) (page : ℕ) → list_any (λ n. n == page) (page_numbers store) ≡ (nat_lt page REGION_PAGES && is_some (store page))
+  pub all : (store : Store) (page : ℕ) → list_any (λ n. n == page) (page_numbers store) ≡ (nat_lt page region_pages && is_some (store page))

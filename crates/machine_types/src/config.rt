@@ -14,13 +14,13 @@ pub enum Rule {
 /// What a machine is made with.
 #[derive(Clone, Copy, Debug, PartialEq, Eq)]
 pub struct Config {
-    /// The number of frames, from 1 to 4096.
+    /// The number of frames, from 1 to [`MOST_FRAMES`](cap_format::MOST_FRAMES).
     pub frames: u32,
-    /// The number of regions, from 1 to 64.
+    /// The number of regions, from 1 to [`MOST_REGIONS`](cap_format::MOST_REGIONS).
     pub regions: u32,
-    /// The number of slots for processes, from 1 to 64.
+    /// The number of slots for processes, from 1 to [`MOST_SLOTS`](crate::MOST_SLOTS).
     pub slots: u32,
-    /// The most steps of a run, up to 1000000000.
+    /// The most steps of a run, up to [`MOST_STEPS`](crate::MOST_STEPS).
     pub steps: u64,
     /// When shared pages are made fit.
     pub rule: Rule,

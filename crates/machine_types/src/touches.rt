@@ -54,7 +54,7 @@ pub enum Touched {
 /// A touch of a page.
 #[derive(Clone, Copy, Debug, PartialEq, Eq)]
 pub struct Note {
-    /// The page that was touched, below 256, and 0 where none was.
+    /// The page that was touched, below [`REGION_PAGES`](cap_format::REGION_PAGES), and 0 where none was.
     pub page: u32,
     pub touched: Touched,
 }

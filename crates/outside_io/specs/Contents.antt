@@ -1,5 +1,5 @@
 -- What a read of a file answers.
-use Rattle.std.specs.Prelude.{◌≡◌, ℕ, ◌<◌, ◌≤◌, List, length, Result, Ok, Err, Some, ⊤}
+use Rattle.std.specs.Prelude.{◌≡◌, ℕ, ◌<◌, ◌≤◌, ◌⊎◌, IfSome, List, length, Result, Ok, Err, Some, ⊤}
 use Rattle.std.specs.declared.option.Option.{Option}
 use Rattle.outside_io.specs.declared.files.FileRefusal.{FileRefusal}
 use Rattle.outside_io.specs.declared.files.FileRefusal.TheVariants.{Failed, TooLong, NoMemory}
@@ -32,3 +32,8 @@ IsFaultOrWant (Err Failed) = ⊤
 IsFaultOrWant (Err NoMemory) = ⊤
 IsFaultOrWant (Err TooLong) = ⊥
 IsFaultOrWant (Ok v) = ⊥
+
+-- The answer is that of a read of some file, but for a failure and for want of memory. `told` gives the bytes that a file
+-- tells.
+abbrev pub IsReadOfSome : {F V : Type 0} → (F → Option (List ℕ)) → (V → List ℕ) → ℕ → Result V FileRefusal → Type 0
+IsReadOfSome {F = F} told bytes limit result = IsFaultOrWant result ⊎ ((file : F) × IfSome (told file) (λ left. IsReadOf bytes (Some left) limit result))

@@ -1,5 +1,5 @@
 // Files by their names.
-ghost use Rattle.std.specs.Prelude.{◌≡◌, IfSome};
+ghost use Rattle.std.specs.Prelude.{◌≡◌, ◌≤◌, IfOk, IfSome, length};
 ghost use Rattle.outside_io.specs.States.{FilesState};
 ghost use Rattle.outside_io.specs.Contents.{IsReadOf, HasFileCause};
 
@@ -28,6 +28,7 @@ pub trait Files {
     /// is longer than `limit`, but for want of memory.
     fn read_file(&mut self, alloc: Global, name: &str, limit: usize) -> Result<Vec<u8>, FileRefusal>
         ensures content { IfSome (state self.old).contents (λ contents. IsReadOf (λ v. v.items) (contents name.now) limit result) }
+        ensures within { IfOk result (λ v. length v.items ≤ limit) }
         ensures same { (state self.new).contents ≡ (state self.old).contents }
         ensures cause { HasFileCause name.now (state self.old) (state self.new) result };
 }

@@ -1,5 +1,5 @@
 // Files in memory.
-ghost use Rattle.std.specs.Prelude.{◌≡◌, IfSome, Some, None, map, option_map, string_bytes};
+ghost use Rattle.std.specs.Prelude.{◌≡◌, ◌≤◌, IfOk, IfSome, Some, None, length, map, option_map, string_bytes};
 ghost use Rattle.outside_io.specs.Contents.{IsReadOf, HasFileCause, MatchFault};
 ghost use Rattle.outside_io.specs.Faults.{count_after};
 
@@ -74,6 +74,7 @@ impl Files for MemoryFiles {
 
     fn read_file(&mut self, alloc: Global, name: &str, limit: usize) -> Result<Vec<u8>, FileRefusal>
         ensures content { IsReadOf (λ v. v.items) (content_of self.old.entries name.now) limit result }
+        ensures within { IfOk result (λ v. length v.items ≤ limit) }
         ensures same { Some (content_of self.new.entries) ≡ Some (content_of self.old.entries) }
         ensures cause { HasFileCause name.now (⟦<MemoryFiles as Files>⟧.state self.old) (⟦<MemoryFiles as Files>⟧.state self.new) result }
 

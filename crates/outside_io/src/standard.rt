@@ -1,9 +1,9 @@
 // Adapters over the readers, writers and files of `std`: the trusted edge.
-ghost use Rattle.std.specs.Prelude.{◌≡◌, ◌≤◌, ◌-◌, ◌^◌, ◌+◌, min, true, None, IsErr, OnErr, OnOk, IfSome, option_map, string_bytes, drop, IfOk};
+ghost use Rattle.std.specs.Prelude.{◌≡◌, ◌≤◌, ◌-◌, ◌^◌, ◌+◌, min, true, None, Some, IsErr, OnErr, OnOk, IfSome, option_map, string_bytes, drop, length, IfOk};
 ghost use Rattle.std.specs.Io.{ReadsAtMost};
 ghost use Rattle.std.specs.Io.KnownBytes.{Appends, ReadConsumes};
 ghost use Rattle.outside_io.specs.States.{AppendsPart, PrintsText};
-ghost use Rattle.outside_io.specs.Contents.{HasFileCause, IsFaultOrWant};
+ghost use Rattle.outside_io.specs.Contents.{IsReadOf, IsReadOfSome, HasFileCause, IsFaultOrWant};
 ghost use Rattle.outside_io.specs.Faults.{HasCause, Rose, last_count};
 
 use crate::{Failed, FileRefusal, Files, Sink, Source};
@@ -11,6 +11,9 @@ use std::alloc::Global;
 use std::io::{Read, Write};
 use std::marker::Model;
 use std::{fs, rt};
+
+#[cfg(test)]
+mod tests;
 
 // A read goes through a buffer, since a reader may change more of what it is lent than it fills.
 const PIECE: usize = 4096;
@@ -161,37 +164,39 @@ impl<H: rt::Files + Drop> HostFiles<H> {
     }
 }
 
-// What came of reading a whole file.
-#[derive(Drop)]
-enum Outcome {
-    Whole(Vec<u8>),
-    TooLong,
-    NoMemory,
-    Fault,
-}
-
 // Reads to the end, or past the limit. Each turn takes at least one byte.
-fn read_whole<R: Read>(alloc: Global, reader: &mut R, limit: usize) -> Outcome {
+fn read_whole<R: Read>(alloc: Global, reader: &mut R, limit: usize) -> Result<Vec<u8>, FileRefusal>
+    ensures content { IfSome (R.remaining reader.old) (λ left. IsReadOf (λ v. v.items) (Some left) limit result) }
+    ensures within { IfOk result (λ v. length v.items ≤ limit) }
+{
     let mut bytes = Vec::new(alloc);
     let mut buffer = [0; PIECE];
     while bytes.len() <= limit {
         match reader.read(&mut buffer) {
-            Ok(0) => return Outcome::Whole(bytes),
+            Ok(0) => return Ok(bytes),
             Ok(count) => {
                 if bytes.extend_from_slice(&buffer[..count]).is_err() {
-                    return Outcome::NoMemory;
+                    return Err(FileRefusal::NoMemory);
                 }
             }
-            Err(_) => return Outcome::Fault,
+            Err(_) => return Err(FileRefusal::Failed),
         }
     }
-    Outcome::TooLong
+    Err(FileRefusal::TooLong)
 }
 
-fn read_host<H: rt::Files>(alloc: Global, host: &H, name: &str, limit: usize) -> Outcome {
+fn read_host<H: rt::Files>(
+    alloc: Global,
+    host: &H,
+    name: &str,
+    limit: usize,
+) -> Result<Vec<u8>, FileRefusal>
+    ensures some_file { IsReadOfSome H.File.remaining (λ v. v.items) limit result }
+    ensures within { IfOk result (λ v. length v.items ≤ limit) }
+{
     match fs::open(host, name) {
         Ok(mut file) => read_whole(alloc, &mut file, limit),
-        Err(_) => Outcome::Fault,
+        Err(_) => Err(FileRefusal::Failed),
     }
 }
 
@@ -199,7 +204,11 @@ impl<H: rt::Files + Drop> Files for HostFiles<H> {
     ghost state = { λ s. record { contents = None; faults = s.faults; failed_last = s.failed_last } };
 
     fn read_file(&mut self, alloc: Global, name: &str, limit: usize) -> Result<Vec<u8>, FileRefusal>
+        ensures within { IfOk result (λ v. length v.items ≤ limit) }
         ensures cause { HasFileCause name.now (⟦<HostFiles<H> as Files>⟧.state self.old) (⟦<HostFiles<H> as Files>⟧.state self.new) result }
+
+        // Every answer but a fault and want of memory is that of a whole read of some file of the host.
+        ensures some_file { IsReadOfSome H.File.remaining (λ v. v.items) limit result }
 
         // At the last count each call fails, but for want of memory.
         ensures at_last { self.old.faults ≡ last_count → IsFaultOrWant result }
@@ -207,20 +216,15 @@ impl<H: rt::Files + Drop> Files for HostFiles<H> {
         let Ok(kept) = String::from_str(alloc, name) else {
             return Err(FileRefusal::NoMemory);
         };
-        let outcome = if self.faults == u64::MAX {
-            Outcome::Fault
+        let answer = if self.faults == u64::MAX {
+            Err(FileRefusal::Failed)
         } else {
             read_host(alloc, &self.host, name, limit)
         };
-        match outcome {
-            Outcome::Whole(bytes) => Ok(bytes),
-            Outcome::TooLong => Err(FileRefusal::TooLong),
-            Outcome::NoMemory => Err(FileRefusal::NoMemory),
-            Outcome::Fault => {
-                self.faults = self.faults.saturating_add(1);
-                self.failed_last = Some(kept);
-                Err(FileRefusal::Failed)
-            }
+        if matches!(answer, Err(FileRefusal::Failed)) {
+            self.faults = self.faults.saturating_add(1);
+            self.failed_last = Some(kept);
         }
+        answer
     }
 }

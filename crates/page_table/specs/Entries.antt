@@ -1,12 +1,26 @@
 -- The page table: an entry or nothing for each page of each region.
-use Rattle.std.specs.Prelude.{ℕ, ◌+◌, ◌*◌, List, None, slice_index_or, slice_set}
+use Rattle.std.specs.Prelude.{◌≡◌, ℕ, ◌≤◌, ◌==◌, ◌&&◌, ◌⊎◌, if◌then◌else◌, None}
 use Rattle.std.specs.declared.option.Option.{Option}
-use Rattle.cap_format.specs.declared.TheConstants.{REGION_PAGES}
+use Rattle.cap_format.specs.Numbers.{most_regions, region_pages}
 use Rattle.page_table.specs.declared.table.Entry.{Entry}
 
--- the entry of a page of a region
-abbrev pub entry_at : List (Option Entry) → ℕ → ℕ → Option Entry
-entry_at table region page = slice_index_or table (region * REGION_PAGES + page) None
+-- an entry or nothing for each page of each region
+abbrev pub Entries : Type 0
+Entries = ℕ → ℕ → Option Entry
 
-abbrev pub with_entry : List (Option Entry) → ℕ → ℕ → Option Entry → List (Option Entry)
-with_entry table region page entry = slice_set table (region * REGION_PAGES + page) entry
+-- no page has an entry
+abbrev pub no_entries : Entries
+no_entries region page = None
+
+-- another entry, or none, for one page
+abbrev pub with_entry : Entries → ℕ → ℕ → Option Entry → Entries
+with_entry entries region page entry r p = if r == region && p == page then entry else entries r p
+
+-- no entry lies past the last region, or past the last page of a region
+abbrev pub NothingPast : Entries → Type 0
+NothingPast entries = (region page : ℕ) → (most_regions ≤ region) ⊎ (region_pages ≤ page) → entries region page ≡ None
+
+-- what a table stands for
+pub record Table : Type 0 where
+  pub entries : Entries
+  pub past : NothingPast entries

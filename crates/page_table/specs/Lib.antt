@@ -1,1 +1,3 @@
 pub mod Entries
+pub mod Listed
+pub mod Stored

@@ -1,6 +1,6 @@
 -- Which regions are taken, and where they lie.
 use Rattle.std.specs.Prelude.{◌≡◌, ℕ, ◌<◌, ◌+◌, ◌*◌, Bool, true, false, List, length, slice_index_or, ℤ, pos, ◌-ℤ◌, ◌*ℤ◌}
-use Rattle.region_plan.specs.declared.TheConstants.{FIRST_REGION, REGION_BYTES}
+use Rattle.region_plan.specs.Numbers.{first_region, region_bytes}
 
 -- for each region whether it is taken
 abbrev pub is_taken : List Bool → ℕ → Bool
@@ -14,7 +14,7 @@ pub record IsLowestFree (plan : List Bool) (region : ℕ) : Type 0 where
 
 -- the first address of a region, and the distance from one to another
 abbrev pub start_of : ℕ → ℕ
-start_of region = FIRST_REGION + region * REGION_BYTES
+start_of region = first_region + region * region_bytes
 
 abbrev pub distance_between : ℕ → ℕ → ℤ
-distance_between from to = (pos to -ℤ pos from) *ℤ pos REGION_BYTES
+distance_between from to = (pos to -ℤ pos from) *ℤ pos region_bytes

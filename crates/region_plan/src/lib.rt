@@ -1,10 +1,12 @@
 //! The regions of the address space: where they lie, and which are taken.
 #![tactic(auto)]
 
+mod laws;
 mod plan;
 #[cfg(test)]
 mod tests;
 
+pub use laws::constants_are_fixed;
 pub use plan::RegionPlan;
 
 /// The first address of region 0, in bytes.

@@ -62,7 +62,7 @@ impl RegionPlan {
         self.taken[region as usize] = false;
     }
 
-    /// The first address of a region, below 64, in bytes.
+    /// The first address of a region, below [`MOST_REGIONS`], in bytes.
     pub fn start(region: u32) -> u64
         requires { region < MOST_REGIONS }
         ensures { result ≡ start_of region }
@@ -70,7 +70,7 @@ impl RegionPlan {
         FIRST_REGION + u64::from(region) * REGION_BYTES
     }
 
-    /// The distance from one region to another, both below 64, in bytes.
+    /// The distance from one region to another, both below [`MOST_REGIONS`], in bytes.
     pub fn distance(from: u32, to: u32) -> i64
         requires from { from < MOST_REGIONS }
         requires to { to < MOST_REGIONS }

@@ -24,10 +24,11 @@ use Rattle.riscv_decode.specs.declared.instr.Instr.TheVariants.{Reg, Imm, Load, 
 use Rattle.riscv_decode.specs.Words.{field, opcode_of, rd_of, funct3_of, rs1_of, rs2_of, funct7_of, immediate_i, immediate_s, immediate_b, immediate_j, signed}
 use Rattle.riscv_decode.specs.Rows.{Format, format_r, format_i, format_unsigned, format_shift6, format_shift5, format_s, format_b, format_u, format_j, format_one, Row, matches, matches_in, reg_row, imm_row, load_row, store_row, branch_row, upper_row, one_row, cjal_row, cjalr_row}
 use Rattle.riscv_decode.specs.Table.{IsRow, IsInRange, IsFrom, IsSigned12, IsImmediateIn, IsEven, immediate_in}
-use Rattle.riscv_decode.specs.Code.{is_small, row_of, op_of, instr_of, word_of, joined, unsigned_of, placed_b, placed_j, bits_in, word_i, word_s, word_u, word_one}
+use Rattle.riscv_decode.specs.Code.{is_small, row_of, op_of, instr_of}
+use Rattle.riscv_decode.specs.Encoded.{word_of, joined, unsigned_of, placed_b, placed_j, bits_in, word_i, word_s, word_u, word_one}
 use Rattle.riscv_decode.proofs.Agreement.{Fixed, fixed_in, fixes_funct3, small}
 use Rattle.riscv_decode.proofs.Instructions.{op_matches, has_fields}
-use Rattle.riscv_decode.proofs.Places.{Parts, Parts-joined, joined-Parts, split_12, split_20, split_26_6, split_20_6, split_31_1, split_25_6, split_7_1, split_8_4, split_12_8, split_20_1, split_21_10, signed-unsigned_12, signed-unsigned_13, signed-unsigned_21, unsigned_signed_12, unsigned_signed_13, unsigned_signed_21, even_bits_13, even_bits_21, unplaced_b, unplaced_j}
+use Rattle.riscv_decode.proofs.Places.{Parts, Parts-joined, joined_below, joined-Parts, split_12, split_20, split_26_6, split_20_6, split_31_1, split_25_6, split_7_1, split_8_4, split_12_8, split_20_1, split_21_10, signed-unsigned_12, signed-unsigned_13, signed-unsigned_21, unsigned_signed_12, unsigned_signed_13, unsigned_signed_21, even_bits_13, even_bits_21, unplaced_b, unplaced_j}
 
 -- each operation on two registers has format R
 format_reg : (o : RegOp) → (reg_row o).format ≡ format_r
@@ -317,3 +318,32 @@ is_row_of_word Fence h = refl
 -- the word of an instruction in range is the one word below 2 ^ 32 that has it
 pub one_word : (i : Instr) → IsInRange i → (w : ℕ) → w < 2 ^ 32 → IsRow w i ↔ (Some (word_of i) ≡ Some w)
 one_word i h w small_w = (λ r. ap (λ x. Some x) (word_of_row w i small_w r), λ e. let same : word_of i ≡ w = cc in subst (λ x. IsRow x i) same (is_row_of_word i h))
+
+-- ---- the word of an instruction in range has 32 bits
+
+-- a word with two registers and the highest 12 bits
+below_i : (r : Row) (rd rs1 bits : ℕ) → is_small r ≡ true → rd < 32 → rs1 < 32 → bits < 4096 → word_i r rd rs1 bits < 2 ^ 32
+below_i r rd rs1 bits s a b c = let p = small_parts r s in joined_below r.opcode rd r.funct3 rs1 (bits % 32) (bits / 32) p.0 a p.1 b (omega arith) (omega arith)
+
+-- a word with two sources and 12 bits around them
+below_s : (r : Row) (rs1 rs2 bits : ℕ) → is_small r ≡ true → rs1 < 32 → rs2 < 32 → bits < 4096 → word_s r rs1 rs2 bits < 2 ^ 32
+below_s r rs1 rs2 bits s a b c = let p = small_parts r s in joined_below r.opcode (bits % 32) r.funct3 rs1 rs2 (bits / 32) p.0 (omega arith) p.1 a b (omega arith)
+
+-- a word with a destination and the highest 20 bits
+below_u : (r : Row) (rd bits : ℕ) → is_small r ≡ true → rd < 32 → bits < 1048576 → word_u r rd bits < 2 ^ 32
+below_u r rd bits s a b = let p = small_parts r s in joined_below r.opcode rd (bits % 8) (bits / 8 % 32) (bits / 256 % 32) (bits / 8192) p.0 a (omega arith) (omega arith) (omega arith) (omega arith)
+
+-- the word of an instruction in range is below 2 ^ 32
+pub word_below : (i : Instr) → IsInRange i → word_of i < 2 ^ 32
+word_below (Reg o rd rs1 rs2) h = let r = reg_row o in let p = small_parts r (small (op.Reg o)) in joined_below r.opcode rd r.funct3 rs1 rs2 r.funct7 p.0 h.0 p.1 h.1 h.2 p.2
+word_below (Imm o rd rs1 imm) h = let r = imm_row o in below_i r rd rs1 (bits_in r.format r.funct7 imm) (small (op.Imm o)) h.0 h.1 (bits_below r.format r imm (format_imm o) (small (op.Imm o)) h.2)
+word_below (Load o rd rs1 imm) h = below_i (load_row o) rd rs1 (unsigned_of (pos 4096) imm) (small (op.Load o)) h.0 h.1 (signed_bits_below imm h.2)
+word_below (Store o rs1 rs2 imm) h = below_s (store_row o) rs1 rs2 (unsigned_of (pos 4096) imm) (small (op.Store o)) h.0 h.1 (signed_bits_below imm h.2)
+word_below (Branch o rs1 rs2 imm) h = below_s (branch_row o) rs1 rs2 (placed_b (unsigned_of (pos 8192) imm)) (small (op.Branch o)) h.0 h.1 (placed_b_below (unsigned_of (pos 8192) imm) (signed_bits_below_13 imm h.2))
+word_below (Upper o rd imm) h = below_u (upper_row o) rd imm (small (op.Upper o)) h.0 h.1
+word_below (Jal rd imm) h = below_u cjal_row rd (placed_j (unsigned_of (pos 2097152) imm)) refl h.0 (placed_j_below (unsigned_of (pos 2097152) imm) (signed_bits_below_21 imm h.1))
+word_below (Jalr rd rs1 imm) h = below_i cjalr_row rd rs1 (unsigned_of (pos 4096) imm) refl h.0 h.1 (signed_bits_below imm h.2)
+word_below (One o rd rs1) h = let r = one_row o in let p = small_parts r (small (op.One o)) in joined_below r.opcode rd r.funct3 rs1 r.rs2 r.funct7 p.0 h.0 p.1 h.1 p.3 p.2
+word_below Ecall h = omega arith
+word_below Ebreak h = omega arith
+word_below Fence h = omega arith

@@ -3,3 +3,4 @@ mod Instructions
 mod Places
 mod Encodings
 mod InRange
+mod RoundTrips

@@ -4,7 +4,7 @@ use Rattle.std.proofs.lemmas.Int.{ints}
 use Rattle.std.proofs.lemmas.Bool.Decides.{nat_tests}
 use Rattle.riscv_decode.specs.Words.{field, opcode_of, rd_of, funct3_of, rs1_of, rs2_of, funct7_of, signed}
 use Rattle.riscv_decode.specs.Table.{IsSigned12, IsFrom, IsEven}
-use Rattle.riscv_decode.specs.Code.{joined, unsigned_of, placed_b, placed_j}
+use Rattle.riscv_decode.specs.Encoded.{joined, unsigned_of, placed_b, placed_j}
 
 -- the six fields of a word
 pub record Parts (w a b c d e f : ℕ) : Type 0 where
@@ -25,6 +25,10 @@ Parts-joined a b c d e f ah bh ch dh eh fh = record {
   rs2 = omega arith;
   funct7 = omega arith;
 }
+
+-- a joined word has 32 bits
+pub joined_below : (a b c d e f : ℕ) → a < 128 → b < 32 → c < 8 → d < 32 → e < 32 → f < 128 → joined a b c d e f < 2 ^ 32
+joined_below a b c d e f ah bh ch dh eh fh = omega arith
 
 -- a word of 32 bits is joined from its fields
 pub joined-Parts : (w : ℕ) → w < 2 ^ 32 → joined (opcode_of w) (rd_of w) (funct3_of w) (rs1_of w) (rs2_of w) (funct7_of w) ≡ w

@@ -1,7 +1,8 @@
 // From an instruction to its word.
-ghost use Rattle.std.specs.Prelude.{◌≡◌, ◌↔◌, ◌<◌, ◌^◌, ℕ, IsSome, Some, IsTrue};
+ghost use Rattle.std.specs.Prelude.{◌≡◌, ◌↔◌, ◌<◌, ◌^◌, ℕ, IsSome, IfSome, Some, IsTrue};
 ghost use Rattle.riscv_decode.specs.Table.{IsRow, IsInRange, IsImmediateIn};
-ghost use Rattle.riscv_decode.specs.Code.{as_row, word_of, is_small, bits_in, word_r, word_i, word_s, word_u, word_one};
+ghost use Rattle.riscv_decode.specs.Code.{as_row, is_small};
+ghost use Rattle.riscv_decode.specs.Encoded.{word_of, bits_in, word_r, word_i, word_s, word_u, word_one};
 
 use crate::fields::{joined, placed_b, placed_j, unsigned_of};
 use crate::instr::Instr;
@@ -13,6 +14,7 @@ use crate::rows::Row;
 /// its row, or the distance of a branch or of cjal is odd.
 pub fn encode(i: &Instr) -> Option<u32>
     ensures word { (word : ℕ) → word < 2 ^ 32 → (IsRow word i.now ↔ (result ≡ Some word)) }
+    ensures is { IfSome result (λ word. word ≡ word_of i.now) }
     ensures some { IsSome result ↔ IsInRange i.now }
 {
     if is_in_range(i) {

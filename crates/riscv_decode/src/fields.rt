@@ -1,7 +1,7 @@
 // The fields and the immediates of a word, and a word from its fields.
 ghost use Rattle.std.specs.Prelude.{◌≡◌, ◌<◌, ◌*◌, ◌^◌, ℤ, pos, ◌-ℤ◌, ◌≤ℤ◌, ◌<ℤ◌, nat_lt, if◌then◌else◌};
 ghost use Rattle.riscv_decode.specs.Words.{field, opcode_of, rd_of, funct3_of, rs1_of, rs2_of, funct7_of, immediate_i, immediate_s, immediate_b, immediate_u, immediate_j};
-ghost use Rattle.riscv_decode.specs.Code.{joined, unsigned_of, placed_b, placed_j};
+ghost use Rattle.riscv_decode.specs.Encoded.{joined, unsigned_of, placed_b, placed_j};
 
 /// So many bits of a word, from this one on.
 pub fn field(word: u32, low: u32, width: u32) -> u32

@@ -11,14 +11,12 @@ mod instr;
 mod laws;
 mod ops;
 mod ranges;
-mod round_trips;
 mod rows;
 
 pub use decoding::decode;
 pub use encoding::encode;
 pub use instr::{BranchOp, ImmOp, Instr, LoadOp, OneOp, RegOp, StoreOp, UpperOp};
-pub use laws::each_word_has_one_row;
-pub use round_trips::{decode_encoded, encode_decoded};
+pub use laws::{each_row_is_decoded, each_word_has_one_row, words_go_round};
 
 #[cfg(test)]
 mod tests;

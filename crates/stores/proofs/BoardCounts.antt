@@ -5,7 +5,7 @@ use Rattle.std.proofs.lemmas.Bool.Decides.{eqb_tells}
 use Rattle.std.proofs.lemmas.List.{get_or-set_same, get_or-set_other}
 use Rattle.std.proofs.lemmas.List.Sums.{sum_by-set, get_or-le-sum_by}
 use Rattle.frame_pool.proofs.Counts.{count-le}
-use Rattle.stores.specs.Boards.{IsIn, AreDistinct}
+use Rattle.machine_types.specs.Lists.{IsIn, AreDistinct}
 
 -- what is taken lies within the list
 taken-below : (xs : List Bool) (k : ℕ) → get_or xs k false ≡ true → k < length xs

@@ -8,7 +8,8 @@ use Rattle.machine_types.specs.Stores.{Page}
 use Rattle.machine_types.specs.Accounts.{Class, is_member, has_member}
 use Rattle.frame_owners.specs.Homes.{Owner}
 use Rattle.page_table.specs.declared.table.Entry.{Entry}
-use Rattle.stores.specs.Boards.{count_of, IsIn, AreDistinct, is_frame, frame_in, IsShared, AreShared, HasSamePage}
+use Rattle.machine_types.specs.Lists.{count_of, IsIn, AreDistinct}
+use Rattle.stores.specs.Boards.{is_frame, frame_in, IsFrameOf, AreFramesOf, HasSamePage}
 
 -- where a test passes once or never, it passes exactly where it is counted
 any-from_count : {A : Type 0} (passes : A → Bool) (xs : List A) (b : Bool) → count_of passes xs ≡ cond b 1 0 → list_any passes xs ≡ b
@@ -22,16 +23,16 @@ any-from_count {A} passes (x ∷ xs) b h = by (passes x) b h (any-from_count pas
     by false b h rest = rest b h
 
 -- a class has a page as a member exactly where its frame is the page's
-pub has_member-is_frame : {frame_at : ℕ → ℕ → Option ℕ} {owner_at : ℕ → Owner} {f : ℕ} {class : Class} → IsShared frame_at owner_at f class → (r p : ℕ)
+pub has_member-is_frame : {frame_at : ℕ → ℕ → Option ℕ} {owner_at : ℕ → Owner} {f : ℕ} {class : Class} → IsFrameOf frame_at owner_at f class → (r p : ℕ)
     → has_member r p class ≡ is_frame f (frame_at r p)
 has_member-is_frame {frame_at = frame_at} {f = f} {class = class} is r p = any-from_count (is_member r p) class.members (is_frame f (frame_at r p)) (is.members r p)
 
 -- a page that has a frame has that frame
-is_frame-same : (f : ℕ) → is_frame f (Some f) ≡ true
+pub is_frame-same : (f : ℕ) → is_frame f (Some f) ≡ true
 is_frame-same f = grind (arith, nat_tests)
 
 -- two pages with one of the frames are both in its class
-pub both-counted : (frame_at : ℕ → ℕ → Option ℕ) (owner_at : ℕ → Owner) (frames : List ℕ) (classes : List Class) (r p s q f : ℕ) → AreShared frame_at owner_at frames classes
+pub both-counted : (frame_at : ℕ → ℕ → Option ℕ) (owner_at : ℕ → Owner) (frames : List ℕ) (classes : List Class) (r p s q f : ℕ) → AreFramesOf frame_at owner_at frames classes
     → IsIn f frames → frame_at r p ≡ Some f → frame_at s q ≡ Some f → 0 < count_of (λ class. has_member r p class && has_member s q class) classes
 both-counted frame_at owner_at [] classes r p s q f are i h k = absurd i
 both-counted frame_at owner_at (x ∷ frames) [] r p s q f are i h k = absurd are
@@ -47,7 +48,7 @@ both-counted frame_at owner_at (x ∷ frames) (class ∷ classes) r p s q f are 
     more false l = l
 
 -- two pages that are in one class have one frame
-pub frame-same : (frame_at : ℕ → ℕ → Option ℕ) (owner_at : ℕ → Owner) (frames : List ℕ) (classes : List Class) (r p s q f g : ℕ) → AreShared frame_at owner_at frames classes
+pub frame-same : (frame_at : ℕ → ℕ → Option ℕ) (owner_at : ℕ → Owner) (frames : List ℕ) (classes : List Class) (r p s q f g : ℕ) → AreFramesOf frame_at owner_at frames classes
     → frame_at r p ≡ Some f → frame_at s q ≡ Some g → 0 < count_of (λ class. has_member r p class && has_member s q class) classes → f ≡ g
 frame-same frame_at owner_at [] [] r p s q f g are h k l = absurd (omega arith)
 frame-same frame_at owner_at [] (class ∷ classes) r p s q f g are h k l = absurd are
@@ -65,7 +66,7 @@ frame-same frame_at owner_at (x ∷ frames) (class ∷ classes) r p s q f g are 
     by (inr (t, e)) b l rest = rest (rw t at l)
 
 -- a page is a member of as many classes as it has of the frames
-pub count_of-has_member : (frame_at : ℕ → ℕ → Option ℕ) (owner_at : ℕ → Owner) (frames : List ℕ) (classes : List Class) (r p : ℕ) → AreShared frame_at owner_at frames classes
+pub count_of-has_member : (frame_at : ℕ → ℕ → Option ℕ) (owner_at : ℕ → Owner) (frames : List ℕ) (classes : List Class) (r p : ℕ) → AreFramesOf frame_at owner_at frames classes
     → count_of (has_member r p) classes ≡ count_of (λ f. is_frame f (frame_at r p)) frames
 count_of-has_member frame_at owner_at [] [] r p are = refl
 count_of-has_member frame_at owner_at [] (class ∷ classes) r p are = absurd are
@@ -74,7 +75,7 @@ count_of-has_member frame_at owner_at (f ∷ frames) (class ∷ classes) r p are
     rw (has_member-is_frame are.0 r p, count_of-has_member frame_at owner_at frames classes r p are.1) refl
 
 -- there are as many frames as classes
-pub length-frames : (frame_at : ℕ → ℕ → Option ℕ) (owner_at : ℕ → Owner) (frames : List ℕ) (classes : List Class) → AreShared frame_at owner_at frames classes → length frames ≡ length classes
+pub length-frames : (frame_at : ℕ → ℕ → Option ℕ) (owner_at : ℕ → Owner) (frames : List ℕ) (classes : List Class) → AreFramesOf frame_at owner_at frames classes → length frames ≡ length classes
 length-frames frame_at owner_at [] [] are = refl
 length-frames frame_at owner_at [] (class ∷ classes) are = absurd are
 length-frames frame_at owner_at (f ∷ frames) [] are = absurd are
@@ -116,9 +117,9 @@ is_some-frame_in memory owners region (Some e) None has = absurd has
 is_some-frame_in memory owners region (Some e) (Some p) has = refl
 
 -- no frame has a class where there is none
-pub none-from-AreShared : (frame_at : ℕ → ℕ → Option ℕ) (owner_at : ℕ → Owner) (frames : List ℕ) → AreShared frame_at owner_at frames [] → (f : ℕ) → IsIn f frames → ⊥
-none-from-AreShared frame_at owner_at [] are f i = i
-none-from-AreShared frame_at owner_at (x ∷ frames) are f i = are
+pub none-from-AreFramesOf : (frame_at : ℕ → ℕ → Option ℕ) (owner_at : ℕ → Owner) (frames : List ℕ) → AreFramesOf frame_at owner_at frames [] → (f : ℕ) → IsIn f frames → ⊥
+none-from-AreFramesOf frame_at owner_at [] are f i = i
+none-from-AreFramesOf frame_at owner_at (x ∷ frames) are f i = are
 
 -- there is no entry where there is no page
 pub none-from-HasSamePage : (memory : List (List Cap)) (owners : List Owner) (region : ℕ) (e : Option Entry) → HasSamePage memory owners region e None → e ≡ None

@@ -1,5 +1,5 @@
 -- A board that was just made.
-use Rattle.std.proofs.Common.{◌≡◌, ℕ, zero, suc, Bool, true, false, cond, Option, None, replicate, count_by, refl, arith}
+use Rattle.std.proofs.Common.{◌≡◌, ℕ, zero, suc, Bool, false, cond, replicate, count_by, refl, arith}
 use Rattle.std.proofs.lemmas.List.Folds.{sum_by-replicate}
 use Rattle.frame_owners.specs.Homes.{owner, nobody}
 
@@ -12,8 +12,3 @@ pub nobody-shares : (count f : ℕ) → (owner (replicate count nobody) f).share
 nobody-shares zero f = refl
 nobody-shares (suc count) zero = refl
 nobody-shares (suc count) (suc f) = nobody-shares count f
-
--- nothing or nothing
-pub empty-choice : {A : Type 0} (b : Bool) (x : Option A) → x ≡ None → cond b x None ≡ None
-empty-choice true x none = none
-empty-choice false x none = refl

@@ -1,21 +1,23 @@
 -- Several calls in a row.
-use Rattle.std.specs.Prelude.{ℕ, Bool, true, false, ◌+◌, ◌%◌, ◌^◌, Result, Ok, Err, is_ok, List}
+use Rattle.std.specs.Prelude.{ℕ, zero, suc, Bool, true, false, ◌+◌, ◌*◌, ◌%◌, ◌^◌, Result, Ok, Err, is_ok, List, []}
+use Rattle.cap_format.specs.Numbers.{page_bytes}
+use Rattle.cap_format.specs.declared.cap.Cap.{Cap}
 use Rattle.machine_types.specs.declared.touches.NoFrame.{NoFrame}
-use Rattle.stores.specs.declared.space.Refusal.{Refusal}
-use Rattle.stores.specs.declared.space.Refusal.TheVariants as refusal
-use Rattle.stores.specs.Content.{Content, Outcome}
-use Rattle.stores.specs.Accesses.{read_of, write_of}
-use Rattle.stores.specs.Regions.{fork_of}
-use Rattle.stores.specs.Transfers.{covers_of, prepare_of}
+use Rattle.contents.specs.declared.refusal.Refusal.{Refusal}
+use Rattle.contents.specs.declared.refusal.Refusal.TheVariants as refusal
+use Rattle.contents.specs.Content.{Content, CallOutcome}
+use Rattle.contents.specs.Accesses.{read_of, write_of}
+use Rattle.contents.specs.Regions.{begin_of, add_page_of, seed_cap_of, fork_of}
+use Rattle.contents.specs.Transfers.{covers_of, prepare_of}
 use Rattle.machine_types.specs.declared.touches.Access.TheVariants.{Read}
 use Rattle.machine_types.specs.declared.touches.Note.{Note}
 
 -- a call on what another left, if that one answered Ok
-abbrev pub then_on : {A B : Type 0} → Content → Result A Refusal → (Content → A → Outcome (Result B Refusal)) → Outcome (Result B Refusal)
+abbrev pub then_on : {A B : Type 0} → Content → Result A Refusal → (Content → A → CallOutcome (Result B Refusal)) → CallOutcome (Result B Refusal)
 then_on after (Err refused) next = record { answer = Err refused; after = after }
 then_on after (Ok a) next = next after a
 
-abbrev pub then_do : {A B : Type 0} → Outcome (Result A Refusal) → (Content → A → Outcome (Result B Refusal)) → Outcome (Result B Refusal)
+abbrev pub then_do : {A B : Type 0} → CallOutcome (Result A Refusal) → (Content → A → CallOutcome (Result B Refusal)) → CallOutcome (Result B Refusal)
 then_do first next = then_on first.after first.answer next
 
 abbrev pub as_refusal : Result (Unit {0}) NoFrame → Result (Unit {0}) Refusal
@@ -23,7 +25,7 @@ as_refusal (Ok done) = Ok tt
 as_refusal (Err lack) = Err refusal.NoFrame
 
 -- The number at one place is added to that at another, and then the region is forked.
-abbrev pub add_and_fork_of : Content → ℕ → ℕ → ℕ → ℕ → Outcome (Result (Unit {0}) Refusal)
+abbrev pub add_and_fork_of : Content → ℕ → ℕ → ℕ → ℕ → CallOutcome (Result (Unit {0}) Refusal)
 add_and_fork_of c region from to child =
     then_do (read_of c region from 8) (λ d first.
     then_do (read_of d region to 8) (λ e second.
@@ -31,9 +33,35 @@ add_and_fork_of c region from to child =
     record { answer = as_refusal (fork_of f region child).answer; after = (fork_of f region child).after })))
 
 -- The touches for a read of bytes, if they are covered: whether the bytes can be read, and what is left.
-abbrev pub made_ready : Bool → Content → Outcome (Result (List Note) NoFrame) → Outcome Bool
-made_ready false c prepared = record { answer = false; after = c }
-made_ready true c prepared = record { answer = is_ok prepared.answer; after = prepared.after }
+abbrev pub made_fit : Bool → Content → CallOutcome (Result (List Note) NoFrame) → CallOutcome Bool
+made_fit false c prepared = record { answer = false; after = c }
+made_fit true c prepared = record { answer = is_ok prepared.answer; after = prepared.after }
 
-abbrev pub take_bytes_of : Content → ℕ → ℕ → ℕ → Outcome Bool
-take_bytes_of c region at n = made_ready (covers_of c region Read at n) c (prepare_of c region at n Read)
+abbrev pub take_bytes_of : Content → ℕ → ℕ → ℕ → CallOutcome Bool
+take_bytes_of c region at n = made_fit (covers_of c region at n Read) c (prepare_of c region at n Read)
+
+-- a call on what another left, if that one found its frame
+abbrev pub then_add : Content → Result (Unit {0}) NoFrame → (Content → CallOutcome (Result (Unit {0}) NoFrame)) → CallOutcome (Result (Unit {0}) NoFrame)
+then_add after (Err lack) next = record { answer = Err lack; after = after }
+then_add after (Ok done) next = next after
+
+-- So many empty pages are added, from page 0 on. The first that finds no frame ends it, and the earlier ones stay.
+unfoldable pub add_pages_of : Content → ℕ → ℕ → ℕ → CallOutcome (Result (Unit {0}) NoFrame)
+add_pages_of c region rights zero = record { answer = Ok tt; after = c }
+add_pages_of c region rights (suc n) =
+    then_add (add_pages_of c region rights n).after (add_pages_of c region rights n).answer (λ d. add_page_of d region n rights [])
+
+-- a granule is stored at the front of each of so many pages
+unfoldable pub seed_pages_of : Content → ℕ → Cap → ℕ → Content
+seed_pages_of c region cap zero = c
+seed_pages_of c region cap (suc n) = seed_cap_of (seed_pages_of c region cap n) region (n * page_bytes) cap
+
+abbrev pub seed_if : Content → Result (Unit {0}) NoFrame → ℕ → Cap → ℕ → Content
+seed_if after (Err lack) region cap pages = after
+seed_if after (Ok done) region cap pages = seed_pages_of after region cap pages
+
+-- A region begins with so many pages, each with this granule at its front.
+abbrev pub fill_region_of : Content → ℕ → ℕ → ℕ → Cap → CallOutcome (Result (Unit {0}) NoFrame)
+fill_region_of c region pages rights cap =
+    let added = add_pages_of (begin_of c region) region rights pages in
+    record { answer = added.answer; after = seed_if added.after added.answer region cap pages }

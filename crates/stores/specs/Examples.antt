@@ -1,89 +1,74 @@
--- Small contents, worked out call by call. They show which class, home and frame a page has, and who touches what.
-use Rattle.std.specs.Prelude.{ℕ, ◌≡◌, ◌+◌, Ok, Err, List, [], ◌∷◌}
-use Rattle.cap_format.specs.declared.TheConstants.{LOAD, STORE}
-use Rattle.cap_format.specs.Made.{root}
-use Rattle.cap_format.specs.Region.{region_start}
-use Rattle.machine_types.specs.declared.config.Rule.{Rule}
-use Rattle.machine_types.specs.declared.config.Rule.TheVariants.{Access, Pointer}
-use Rattle.machine_types.specs.declared.touches.Access.TheVariants.{Write}
-use Rattle.machine_types.specs.declared.touches.Note.{Note}
-use Rattle.machine_types.specs.declared.touches.Touched.{Touched}
-use Rattle.machine_types.specs.declared.touches.Touched.TheVariants.{Copied, Moved}
-use Rattle.machine_types.specs.declared.TheConstants.{RIGHT_R, RIGHT_W}
-use Rattle.machine_types.specs.Accounts.{Member, Class}
-use Rattle.stores.specs.Content.{Content, nothing}
-use Rattle.stores.specs.Accesses.{untouched, read_of}
-use Rattle.stores.specs.Regions.{begin_of, end_of, add_page_of, seed_cap_of, fork_of}
-use Rattle.stores.specs.Transfers.{prepare_of}
+-- One board, worked out: region 0 was forked to region 1, and nothing was touched yet. Page 0 has a pointer to region 0 in its
+-- first granule, and both regions have it from frame 5.
+use Rattle.std.specs.Prelude.{ℕ, ◌≡◌, ◌+◌, ◌==◌, ◌&&◌, nat_lt, true, false, if◌then◌else◌, Option, Some, None, List, [], ◌∷◌, ◌++◌, replicate, slice_set}
+use Rattle.cap_format.specs.Numbers.{page_granules, permit_load, permit_store}
+use Rattle.cap_format.specs.declared.cap.Cap.{Cap}
+use Rattle.cap_format.specs.Made.{null, root}
+use Rattle.cap_format.specs.Moves.{moved}
+use Rattle.machine_types.specs.declared.config.Rule.TheVariants.{Pointer}
+use Rattle.machine_types.specs.Numbers.{right_to_read, right_to_write}
+use Rattle.machine_types.specs.Stores.{Store}
+use Rattle.machine_types.specs.Accounts.{Class}
+use Rattle.frame_owners.specs.Homes.{nobody}
+use Rattle.page_table.specs.declared.table.Entry.{Entry}
+use Rattle.contents.specs.Content.{Content}
+use Rattle.contents.specs.Examples.{member, class_with}
+use Rattle.stores.specs.declared.board.Board.{Board}
+use Rattle.stores.specs.Boards.{Stands}
 
-abbrev pub member : ℕ → ℕ → Member
-member region page = record { region = region; page = page }
+-- the pointer, and what it is in region 1
+abbrev pub pointer : Cap
+pointer = root 0 (permit_load + permit_store)
 
-abbrev pub class_with : ℕ → List Member → Class
-class_with home members = record { home = home; members = members }
+abbrev pub moved_pointer : Cap
+moved_pointer = moved pointer 0 1
 
-abbrev pub note : ℕ → Touched → Note
-note page touched = record { page = page; touched = touched }
+-- granules without a tag, and the same with a capability at the front
+abbrev pub blank : List Cap
+blank = replicate page_granules null
 
--- the content after an outcome's call
-abbrev pub after_fork : Content → ℕ → ℕ → Content
-after_fork c from to = (fork_of c from to).after
+abbrev pub fronted : Cap → List Cap
+fronted cap = slice_set blank 0 cap
 
-abbrev pub after_read : Content → ℕ → Content
-after_read c region = (read_of c region 0 8).after
+abbrev pub to_read_and_write : ℕ
+to_read_and_write = right_to_read + right_to_write
 
--- region 0 has one page, whose first granule is a pointer to its start
-abbrev pub one_page : Rule → ℕ → Content
-one_page rule frames = seed_cap_of (add_page_of (begin_of (nothing rule frames) 0) 0 0 (RIGHT_R + RIGHT_W) []).after 0 0 (root 0 (LOAD + STORE))
+-- page 0 of regions 0 and 1 has frame 5
+abbrev pub pictured_entry : ℕ → ℕ → Option Entry
+pictured_entry region page = if nat_lt region 2 && page == 0 then Some (record { frame = record { 0 = 5 }; rights = to_read_and_write }) else None
 
--- region 0 has two empty pages, which region 1 has from it
-abbrev pub two_pages : Content
-two_pages = after_fork (add_page_of (add_page_of (begin_of (nothing Pointer 3) 0) 0 0 (RIGHT_R + RIGHT_W) []).after 0 1 (RIGHT_R + RIGHT_W) []).after 0 1
+-- eight frames, of which the sixth is used, has region 0 as home and two sharers, and has the pointer
+pub record IsPictured (board : Board) : Type 0 where
+  pub entries : (region page : ℕ) → board.table.entries region page ≡ pictured_entry region page
+  pub memory : board.memory ≡ replicate 5 blank ++ (fronted pointer ∷ replicate 2 blank)
+  pub pool : board.pool ≡ record { size = 8; used = replicate 5 false ++ (true ∷ replicate 2 false) }
+  pub owners : board.owners ≡ replicate 5 nobody ++ (record { home = 0; sharers = 2 } ∷ replicate 2 nobody)
 
--- Of three frames the fork uses none. A transfer over both pages copies the first into the third frame, and finds none for
--- the second: the first copy stays.
-pub record ASecondCopyFindsNoFrame : Type 0 where
-  pub forked : two_pages.account ≡ class_with 0 (member 0 0 ∷ member 1 0 ∷ []) ∷ class_with 0 (member 0 1 ∷ member 1 1 ∷ []) ∷ []
-  pub answer : (prepare_of two_pages 1 4080 32 Write).answer ≡ Err (record { before = note 0 Copied })
-  pub account : (prepare_of two_pages 1 4080 32 Write).after.account
-      ≡ class_with 0 (member 0 0 ∷ []) ∷ class_with 0 (member 0 1 ∷ member 1 1 ∷ []) ∷ class_with 1 (member 1 0 ∷ []) ∷ []
+-- a store of page 0 alone
+abbrev pub store_of : ℕ → List Cap → Store
+store_of rights granules page = if page == 0 then Some (record { rights = rights; granules = granules }) else None
 
--- region 1 has a page from region 0, and region 2 from region 1
-abbrev pub grandchild : Content
-grandchild = after_fork (after_fork (one_page Access 4) 0 1) 1 2
+-- Region 0 has the page with the pointer. Region 1 has it with these rights and this capability at its front. There is one
+-- class.
+abbrev pub pictured : ℕ → Cap → Class → Content
+pictured rights cap class = record {
+  stores = λ region. if region == 0 then Some (store_of to_read_and_write (fronted pointer)) else (if region == 1 then Some (store_of rights (fronted cap)) else None);
+  account = class ∷ [];
+  rule = Pointer;
+  frames = 8;
+}
 
--- then region 2 read, and region 0 ended
-abbrev pub grandchild_alone : Content
-grandchild_alone = end_of (after_read grandchild 2) 0
+-- both pages are in one class, whose home is region 0
+abbrev pub both : Class
+both = class_with 0 (member 0 0 ∷ member 1 0 ∷ [])
 
--- Three regions share one frame until one of them reads and gets a copy. The last of the others moves what it has.
-pub record TheLastMemberMoves : Type 0 where
-  pub shared : grandchild.account ≡ class_with 0 (member 0 0 ∷ member 1 0 ∷ member 2 0 ∷ []) ∷ []
-  pub first : (read_of grandchild 2 0 8).answer ≡ Ok (region_start 2, note 0 Copied)
-  pub copied : (after_read grandchild 2).account ≡ class_with 0 (member 0 0 ∷ member 1 0 ∷ []) ∷ class_with 2 (member 2 0 ∷ []) ∷ []
-  pub ended : grandchild_alone.account ≡ class_with 0 (member 1 0 ∷ []) ∷ class_with 2 (member 2 0 ∷ []) ∷ []
-  pub second : (read_of grandchild_alone 1 0 8).answer ≡ Ok (region_start 1, note 0 Moved)
-  pub moved : (after_read grandchild_alone 1).account ≡ class_with 1 (member 1 0 ∷ []) ∷ class_with 2 (member 2 0 ∷ []) ∷ []
-
--- region 1 has a page from region 0, which has ended
-abbrev pub orphan : Rule → Content
-orphan rule = end_of (after_fork (one_page rule 4) 0 1) 0
-
--- its child is in region 0 again
-abbrev pub home_again : Rule → Content
-home_again rule = after_fork (orphan rule) 1 0
-
--- under `access` region 1 read before, and ended after
-abbrev pub home_lost : Content
-home_lost = end_of (after_fork (after_read (orphan Access) 1) 1 0) 1
-
--- The home decides what is foreign, and not who came from whom. A page that was never touched keeps the home in which it
--- was made, so it is fit for the grandchild that lives there now; and a page that moved is foreign there.
-pub record TheHomeDecides : Type 0 where
-  pub home : (home_again Pointer).account ≡ class_with 0 (member 1 0 ∷ member 0 0 ∷ []) ∷ []
-  pub fit : (read_of (home_again Pointer) 0 0 8).answer ≡ Ok (region_start 0, untouched)
-  pub fit_too : (read_of (home_again Access) 0 0 8).answer ≡ Ok (region_start 0, untouched)
-  pub foreign : (read_of (home_again Pointer) 1 0 8).answer ≡ Ok (region_start 1, note 0 Copied)
-  pub moves : (read_of (orphan Access) 1 0 8).answer ≡ Ok (region_start 1, note 0 Moved)
-  pub lost : home_lost.account ≡ class_with 1 (member 0 0 ∷ []) ∷ []
-  pub moves_back : (read_of home_lost 0 0 8).answer ≡ Ok (region_start 0, note 0 Moved)
+-- There is such a board. It stands for the content in which region 1 has the pointer moved; and for none in which it has the
+-- pointer as it is, or the page with other rights, or in which the class has another home, or two members more.
+pub record ThePictureStands : Type 0 where
+  pub board : Board
+  pub is : IsPictured board
+  pub stands : (b : Board) → IsPictured b → Stands b (pictured to_read_and_write moved_pointer both)
+  pub unmoved : (b : Board) → IsPictured b → Stands b (pictured to_read_and_write pointer both) → ⊥
+  pub rights : (b : Board) → IsPictured b → Stands b (pictured right_to_read moved_pointer both) → ⊥
+  pub home : (b : Board) → IsPictured b → Stands b (pictured to_read_and_write moved_pointer (class_with 1 (member 0 0 ∷ member 1 0 ∷ []))) → ⊥
+  pub members : (b : Board) → IsPictured b → Stands b (pictured to_read_and_write moved_pointer (class_with 0 (member 0 0 ∷ member 1 0 ∷ member 2 0 ∷ member 3 0 ∷ []))) → ⊥

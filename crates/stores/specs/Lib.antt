@@ -1,10 +1,5 @@
-pub mod Content
-pub mod Accesses
-pub mod Regions
-pub mod Transfers
-pub mod Looks
 pub mod Known
 pub mod Boards
 pub mod Laws
-pub mod Examples
 pub mod Callers
+pub mod Examples

@@ -1,8 +1,7 @@
 // The physical machine on which spaces are built.
 ghost use Rattle.std.specs.Prelude.{◌≡◌, ◌≤◌, ◌<◌, ◌↔◌, ℕ, IfOk, IsTrue, None, length};
-ghost use Rattle.page_table.specs.Entries.{entry_at};
 ghost use Rattle.frame_owners.specs.Homes.{owner};
-ghost use Rattle.stores.specs.Boards.{IsEmpty, made_frames, mapped};
+ghost use Rattle.stores.specs.Boards.{IsEmpty, made_frames};
 
 use cap_format::{MOST_FRAMES, MOST_REGIONS, REGION_PAGES};
 use frame_owners::Owners;
@@ -35,6 +34,9 @@ impl Board {
         ensures empty { IfOk result IsEmpty }
         ensures size { IfOk result (λ board. board.pool.size ≡ frames) }
         ensures made { IfOk result (λ board. made_frames board ≡ frames) }
+        ensures memory { IfOk result (λ board. length board.memory ≡ frames) }
+        ensures pool { IfOk result (λ board. length board.pool.used ≡ frames) }
+        ensures owners { IfOk result (λ board. length board.owners ≡ frames) }
     {
         Ok(Board {
             memory: Memory::new(alloc, frames)?,
@@ -99,8 +101,8 @@ fn has_no_sharer(owners: &Owners) -> bool
 // No page of the region has an entry.
 fn has_no_page(table: &PageTable, region: u32) -> bool
     requires { region < MOST_REGIONS }
-    ensures none { IsTrue result → (page : ℕ) → page < REGION_PAGES → entry_at table.now region page ≡ None }
-    ensures all { ((page : ℕ) → page < REGION_PAGES → entry_at table.now region page ≡ None) → IsTrue result }
+    ensures none { IsTrue result → (page : ℕ) → page < REGION_PAGES → table.now.entries region page ≡ None }
+    ensures all { ((page : ℕ) → page < REGION_PAGES → table.now.entries region page ≡ None) → IsTrue result }
 {
     for page in 0..REGION_PAGES {
         if table.look(region, page).is_ok() {
@@ -112,8 +114,8 @@ fn has_no_page(table: &PageTable, region: u32) -> bool
 
 // No page has an entry.
 fn has_no_entry(table: &PageTable) -> bool
-    ensures none { IsTrue result → (region page : ℕ) → mapped table.now region page ≡ None }
-    ensures all { ((region page : ℕ) → mapped table.now region page ≡ None) → IsTrue result }
+    ensures none { IsTrue result → (region page : ℕ) → table.now.entries region page ≡ None }
+    ensures all { ((region page : ℕ) → table.now.entries region page ≡ None) → IsTrue result }
 {
     for region in 0..MOST_REGIONS {
         if !has_no_page(table, region) {

@@ -1,17 +1,8 @@
-// Small contents, worked out. Each function states what becomes of one, does nothing and takes nothing.
-ghost use Rattle.stores.specs.Examples.{ASecondCopyFindsNoFrame, TheLastMemberMoves, TheHomeDecides};
+// A board, worked out. The function states what it stands for, does nothing and takes nothing.
+ghost use Rattle.stores.specs.Examples.{ThePictureStands};
 
-/// A transfer over two shared pages with one frame free copies the first, and the answer says so.
-pub fn a_second_copy_finds_no_frame()
-    ensures { ASecondCopyFindsNoFrame }
-{}
-
-/// A page that three regions share is copied for the one that reads, and moves where one region is left.
-pub fn the_last_member_moves()
-    ensures { TheLastMemberMoves }
-{}
-
-/// The home of a page decides whether it is foreign, and not who came from whom.
-pub fn the_home_decides()
-    ensures { TheHomeDecides }
+/// A board of two regions that share a frame stands for the content in which the child has the pointer moved, and for none
+/// in which the pointer, the rights, the home or the members are others.
+pub fn the_picture_stands()
+    ensures { ThePictureStands }
 {}

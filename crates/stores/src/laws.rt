@@ -1,79 +1,30 @@
-// Laws of the definitions. Each function states one, does nothing and takes nothing.
-ghost use Rattle.stores.specs.Laws.{SettingsStay, RefusalsChangeNothing, UsedStaysWithin, OtherStoresStay, RegionsAreKept, OwnStoreDecides, TouchesAreExact, ForkCopiesTheStore, EndKeepsShared, CoversEachByte, PreparedIsReady, OneFrameForOneClass, EachPageHasOneClass, StoresAreWhole, TakenAreUsed, EmptyStandsForNothing};
-
-/// No call changes the copy rule or the number of frames.
-pub fn settings_stay()
-    ensures { SettingsStay }
-{}
-
-/// A refused call changes nothing, except that in `prepare` the touch that the refusal names stays.
-pub fn refusals_change_nothing()
-    ensures { RefusalsChangeNothing }
-{}
-
-/// Each call that finds no more frames used than there are leaves no more used.
-pub fn used_stays_within()
-    ensures { UsedStaysWithin }
-{}
-
-/// Each call leaves the stores of the regions that it doesn't name, and one that only touches leaves every store.
-pub fn other_stores_stay()
-    ensures { OtherStoresStay }
-{}
-
-/// Which calls give a region a store or take it away.
-pub fn regions_are_kept()
-    ensures { RegionsAreKept }
-{}
-
-/// Each call on a region depends on no other region's store, and what it leaves to the region neither.
-pub fn own_store_decides()
-    ensures { OwnStoreDecides }
-{}
-
-/// What a touch takes and leaves: a sole member needs no frame, and a frame is wanted only where all are used.
-pub fn touches_are_exact()
-    ensures { TouchesAreExact }
-{}
-
-/// What a fork gives the child, how many frames it uses, and when it is refused.
-pub fn fork_copies_the_store()
-    ensures { ForkCopiesTheStore }
-{}
-
-/// When a region ends, the pages of all others stay in their classes.
-pub fn end_keeps_shared()
-    ensures { EndKeepsShared }
-{}
-
-/// The scan of a transfer's bytes says that each of them is covered.
-pub fn covers_each_byte()
-    ensures { CoversEachByte }
-{}
-
-/// A transfer whose touches were made has none left to make.
-pub fn prepared_is_ready()
-    ensures { PreparedIsReady }
-{}
+// Laws of boards. Each function states one, does nothing and takes nothing.
+ghost use Rattle.stores.specs.Laws.{OneFrameForOneClass, FramesHaveClasses, BoardsStandForWholeContents, TakenAreUsed, SharersAreFew, EmptyStandsForNothing};
 
 /// On a board two pages have one frame exactly where their members are in one class.
 pub fn one_frame_for_one_class()
     ensures { OneFrameForOneClass }
 {}
 
-/// On a board each page is a member of exactly one class, and each member is a page.
-pub fn each_page_has_one_class()
-    ensures { EachPageHasOneClass }
+/// On a board the class of a page has the home of its frame, and as many members as the frame has sharers.
+pub fn frames_have_classes()
+    ensures { FramesHaveClasses }
 {}
 
-/// On a board each page has 256 granules, and there is none past the last page of a region.
-pub fn stores_are_whole()
-    ensures { StoresAreWhole }
+/// Each content that a board stands for is whole: each page is a member of exactly one class, and each tagged granule is
+/// inside the region.
+pub fn boards_stand_for_whole_contents()
+    ensures { BoardsStandForWholeContents }
 {}
 
 /// On a board the taken frames are as many as the classes, and no more than there are.
 pub fn taken_are_used()
     ensures { TakenAreUsed }
+{}
+
+/// A frame has at most as many sharers as there are regions.
+pub fn sharers_are_few()
+    ensures { SharersAreFew }
 {}
 
 /// A board is empty exactly where it stands for nothing.

@@ -3,30 +3,23 @@ ghost use Rattle.std.specs.Prelude.{◌≡◌, ◌≢◌, ◌<◌, ◌≤◌, �
 ghost use Rattle.std.specs.Option.{option_map};
 ghost use Rattle.machine_types.specs.Granules.{IsSize};
 ghost use Rattle.machine_types.specs.Held.{MayHold};
-ghost use Rattle.stores.specs.Content.{Content, used_frames};
-ghost use Rattle.stores.specs.Accesses.{read_of, read_cap_of, fetch_of, write_of, write_cap_of, page_of_place};
-ghost use Rattle.stores.specs.Regions.{begin_of, end_of, add_page_of, seed_cap_of, fork_of};
-ghost use Rattle.stores.specs.Transfers.{covers_of, prepare_of, read_bytes_of, write_bytes_of};
-ghost use Rattle.stores.specs.Looks.{peek_of, rights_of, standing, standing_of};
-ghost use Rattle.stores.specs.Known.{StandsFor, Any, HasStore, HasNoStore, LacksPage, IsOwn, Covers, IsReady, KeepsStores, KeepsOtherStores, FramesStay, OtherFramesStay, FramesStayBut, notes_of_load, notes_of_store, notes_of_transfer};
+ghost use Rattle.contents.specs.Content.{Content, used_frames};
+ghost use Rattle.contents.specs.Accesses.{read_of, read_cap_of, fetch_of, write_of, write_cap_of, page_of_place};
+ghost use Rattle.contents.specs.Regions.{begin_of, end_of, add_page_of, seed_cap_of, fork_of};
+ghost use Rattle.contents.specs.Transfers.{covers_of, prepare_of, read_bytes_of, write_bytes_of};
+ghost use Rattle.contents.specs.Looks.{peek_of, rights_of, standing_of};
+ghost use Rattle.contents.specs.Touching.{notes_of_load, notes_of_store, notes_of_transfer};
+ghost use Rattle.contents.specs.Whole.{IsWhole};
+ghost use Rattle.stores.specs.Known.{Translations, StandsFor, Any, KeepsStores, KeepsOtherStores, standing, FrameStays, FramesStay, OtherFramesStay, FramesStayBut};
+ghost use Rattle.contents.specs.Conditions.{HasStore, HasNoStore, HasEmptyStore, LacksPage, IsOwn, Covers, IsPrepared};
 ghost use Rattle.machine_types.specs.declared.touches.Access.TheVariants.{Read, Write};
 
 use crate::MOST_TRANSFER;
 use cap_format::{
     Cap, GRANULE_BYTES, MOST_REGIONS, PAGE_BYTES, PAGE_GRANULES, REGION_BYTES, REGION_PAGES,
 };
+use contents::Refusal;
 use machine_types::{Access, FrameNo, NoFrame, Note};
-
-/// Why an access is refused. The refusals are tested in this order.
-#[derive(Clone, Copy, Debug, PartialEq, Eq)]
-pub enum Refusal {
-    /// The page is absent.
-    NoPage,
-    /// The page lacks the right.
-    NoRight,
-    /// A touch needs a frame, and none is free.
-    NoFrame,
-}
 
 /// How a page of a region stands.
 #[derive(Clone, Copy, Debug, PartialEq, Eq)]
@@ -54,8 +47,8 @@ pub trait Stores {
     /// The contents that it stands for.
     ghost stands_for: { Self → Content → Type 0 };
 
-    /// The frame of each page of each region.
-    ghost frame_at: { Self → ℕ → ℕ → Option ℕ };
+    /// The translation of each page of each region: the second meaning, since contents say nothing of frames.
+    ghost translation_at: { Self → Translations };
 
     /// Gives a region, which has none, an empty store.
     fn begin(&mut self, region: u32)
@@ -63,8 +56,9 @@ pub trait Stores {
         requires none { ∥ StandsFor stands_for self.old (HasNoStore region) ∥₁ }
         ensures after { (c : Content) → stands_for self.old c → stands_for self.new (begin_of c region) }
         ensures begun { ∥ StandsFor stands_for self.new (HasStore region) ∥₁ }
+        ensures empty { ∥ StandsFor stands_for self.new (HasEmptyStore region) ∥₁ }
         ensures keeps { KeepsOtherStores stands_for region self.old self.new }
-        ensures frames { FramesStay (frame_at self.old) (frame_at self.new) };
+        ensures frames { FramesStay (translation_at self.old) (translation_at self.new) };
 
     /// Ends the store of a region, which has one. Its pages leave their classes, and classes without members go.
     fn end(&mut self, region: u32)
@@ -73,7 +67,7 @@ pub trait Stores {
         ensures after { (c : Content) → stands_for self.old c → stands_for self.new (end_of c region) }
         ensures ended { ∥ StandsFor stands_for self.new (HasNoStore region) ∥₁ }
         ensures keeps { KeepsOtherStores stands_for region self.old self.new }
-        ensures frames { OtherFramesStay (frame_at self.old) (frame_at self.new) region };
+        ensures frames { OtherFramesStay (translation_at self.old) (translation_at self.new) region };
 
     /// Gives a store a page that it doesn't have, with rights below 8: at most [`PAGE_BYTES`] bytes, and then zeros,
     /// without a tag. It is a class of its own, with the region as home. [`NoFrame`] comes exactly where no frame is
@@ -86,12 +80,13 @@ pub trait Stores {
         requires absent { ∥ StandsFor stands_for self.old (LacksPage region page) ∥₁ }
         ensures answer { (c : Content) → stands_for self.old c → result ≡ (add_page_of c region page rights bytes.now).answer }
         ensures after { (c : Content) → stands_for self.old c → stands_for self.new (add_page_of c region page rights bytes.now).after }
+        ensures own { IsOk result → ∥ StandsFor stands_for self.new (IsOwn region page) ∥₁ }
         ensures keeps { KeepsStores stands_for self.old self.new }
-        ensures frames { (r p : ℕ) → (r ≢ region) ⊎ (p ≢ page) → frame_at self.new r p ≡ frame_at self.old r p }
-        ensures refused { IsErr result → FramesStay (frame_at self.old) (frame_at self.new) };
+        ensures frames { (r p : ℕ) → (r ≢ region) ⊎ (p ≢ page) → FrameStays (translation_at self.old) (translation_at self.new) r p }
+        ensures refused { IsErr result → FramesStay (translation_at self.old) (translation_at self.new) };
 
     /// Stores a granule, whatever the rights of its page, which is alone in its class and has the region as home. A
-    /// tagged one is inside the region. The place is a multiple of 16.
+    /// tagged one is inside the region. The place is a multiple of [`GRANULE_BYTES`].
     fn seed_cap(&mut self, region: u32, at: u64, cap: Cap)
         requires region { region < MOST_REGIONS }
         requires aligned { at % GRANULE_BYTES ≡ 0 }
@@ -100,7 +95,7 @@ pub trait Stores {
         requires own { ∥ StandsFor stands_for self.old (IsOwn region (page_of_place at)) ∥₁ }
         ensures after { (c : Content) → stands_for self.old c → stands_for self.new (seed_cap_of c region at cap) }
         ensures keeps { KeepsStores stands_for self.old self.new }
-        ensures frames { FramesStay (frame_at self.old) (frame_at self.new) };
+        ensures frames { FramesStay (translation_at self.old) (translation_at self.new) };
 
     /// The number of `size` bytes, 1, 2, 4 or 8, at a place that is a multiple of `size`, with the touch that the read
     /// made. It wants the right R.
@@ -113,10 +108,10 @@ pub trait Stores {
         ensures answer { (c : Content) → stands_for self.old c → result ≡ (read_of c region at size).answer }
         ensures after { (c : Content) → stands_for self.old c → stands_for self.new (read_of c region at size).after }
         ensures keeps { KeepsStores stands_for self.old self.new }
-        ensures frames { FramesStayBut (frame_at self.old) (frame_at self.new) region (notes_of_load result) };
+        ensures frames { FramesStayBut (translation_at self.old) (translation_at self.new) region (notes_of_load result) };
 
-    /// The granule at a place that is a multiple of 16, with its tag, and the touch that the read made. It wants the
-    /// right R.
+    /// The granule at a place that is a multiple of [`GRANULE_BYTES`], with its tag, and the touch that the read made. It
+    /// wants the right R.
     fn read_cap(&mut self, region: u32, at: u64) -> Result<(Cap, Note), Refusal>
         requires region { region < MOST_REGIONS }
         requires aligned { at % GRANULE_BYTES ≡ 0 }
@@ -125,7 +120,7 @@ pub trait Stores {
         ensures answer { (c : Content) → stands_for self.old c → result ≡ (read_cap_of c region at).answer }
         ensures after { (c : Content) → stands_for self.old c → stands_for self.new (read_cap_of c region at).after }
         ensures keeps { KeepsStores stands_for self.old self.new }
-        ensures frames { FramesStayBut (frame_at self.old) (frame_at self.new) region (notes_of_load result) };
+        ensures frames { FramesStayBut (translation_at self.old) (translation_at self.new) region (notes_of_load result) };
 
     /// Stores the low `size` bytes of a number, 1, 2, 4 or 8, at a place that is a multiple of `size`, and clears the
     /// tag of their granule. The answer is the touch that the write made. It wants the right W.
@@ -138,10 +133,10 @@ pub trait Stores {
         ensures answer { (c : Content) → stands_for self.old c → result ≡ (write_of c region at size v).answer }
         ensures after { (c : Content) → stands_for self.old c → stands_for self.new (write_of c region at size v).after }
         ensures keeps { KeepsStores stands_for self.old self.new }
-        ensures frames { FramesStayBut (frame_at self.old) (frame_at self.new) region (notes_of_store result) };
+        ensures frames { FramesStayBut (translation_at self.old) (translation_at self.new) region (notes_of_store result) };
 
-    /// Stores a granule with its tag at a place that is a multiple of 16. A tagged one is inside the region. The answer
-    /// is the touch that the write made. It wants the right W.
+    /// Stores a granule with its tag at a place that is a multiple of [`GRANULE_BYTES`]. A tagged one is inside the
+    /// region. The answer is the touch that the write made. It wants the right W.
     fn write_cap(&mut self, region: u32, at: u64, cap: Cap) -> Result<Note, Refusal>
         requires region { region < MOST_REGIONS }
         requires aligned { at % GRANULE_BYTES ≡ 0 }
@@ -151,7 +146,7 @@ pub trait Stores {
         ensures answer { (c : Content) → stands_for self.old c → result ≡ (write_cap_of c region at cap).answer }
         ensures after { (c : Content) → stands_for self.old c → stands_for self.new (write_cap_of c region at cap).after }
         ensures keeps { KeepsStores stands_for self.old self.new }
-        ensures frames { FramesStayBut (frame_at self.old) (frame_at self.new) region (notes_of_store result) };
+        ensures frames { FramesStayBut (translation_at self.old) (translation_at self.new) region (notes_of_store result) };
 
     /// The four bytes at a place that is a multiple of 4, with the touch that the fetch made. It wants the right X.
     fn fetch(&mut self, region: u32, at: u64) -> Result<(u32, Note), Refusal>
@@ -162,7 +157,7 @@ pub trait Stores {
         ensures answer { (c : Content) → stands_for self.old c → result ≡ (fetch_of c region at).answer }
         ensures after { (c : Content) → stands_for self.old c → stands_for self.new (fetch_of c region at).after }
         ensures keeps { KeepsStores stands_for self.old self.new }
-        ensures frames { FramesStayBut (frame_at self.old) (frame_at self.new) region (notes_of_load result) };
+        ensures frames { FramesStayBut (translation_at self.old) (translation_at self.new) region (notes_of_load result) };
 
     /// Whether every page under the `n` bytes from a place on is there, with the right that the access wants. The bytes
     /// lie in the region. No bytes are always covered.
@@ -170,7 +165,7 @@ pub trait Stores {
         requires region { region < MOST_REGIONS }
         requires within { at + n ≤ REGION_BYTES }
         requires some { ∥ StandsFor stands_for self.now Any ∥₁ }
-        ensures answer { (c : Content) → stands_for self.now c → result ≡ covers_of c region access at n }
+        ensures answer { (c : Content) → stands_for self.now c → result ≡ covers_of c region at n access }
         ensures covered { IsTrue result → ∥ StandsFor stands_for self.now (Covers region at n access) ∥₁ };
 
     /// Makes the touches of a transfer of 1 to [`MOST_TRANSFER`] bytes that are covered, the lowest page first. The
@@ -190,15 +185,15 @@ pub trait Stores {
         requires covered { ∥ StandsFor stands_for self.old (Covers region at n access) ∥₁ }
         ensures answer { (c : Content) → stands_for self.old c → result ≡ (prepare_of c region at n access).answer }
         ensures after { (c : Content) → stands_for self.old c → stands_for self.new (prepare_of c region at n access).after }
-        ensures ready { IsOk result → ∥ StandsFor stands_for self.new (IsReady region at n access) ∥₁ }
+        ensures prepared { IsOk result → ∥ StandsFor stands_for self.new (IsPrepared region at n access) ∥₁ }
         ensures keeps { KeepsStores stands_for self.old self.new }
-        ensures frames { FramesStayBut (frame_at self.old) (frame_at self.new) region (notes_of_transfer result) };
+        ensures frames { FramesStayBut (translation_at self.old) (translation_at self.new) region (notes_of_transfer result) };
 
     /// The bytes from a place on. They are covered for a read, and none of their pages would be touched by it.
     fn read_bytes(&self, region: u32, at: u64, into: &mut [u8])
         requires region { region < MOST_REGIONS }
         requires within { at + length into.old ≤ REGION_BYTES }
-        requires ready { ∥ StandsFor stands_for self.now (IsReady region at (length into.old) Read) ∥₁ }
+        requires prepared { ∥ StandsFor stands_for self.now (IsPrepared region at (length into.old) Read) ∥₁ }
         ensures { (c : Content) → stands_for self.now c → into.new ≡ read_bytes_of c region at (length into.old) };
 
     /// Stores bytes from a place on, and clears the tags of the granules that they overlap. They are covered for a
@@ -206,13 +201,16 @@ pub trait Stores {
     fn write_bytes(&mut self, region: u32, at: u64, from: &[u8])
         requires region { region < MOST_REGIONS }
         requires within { at + length from.now ≤ REGION_BYTES }
-        requires ready { ∥ StandsFor stands_for self.old (IsReady region at (length from.now) Write) ∥₁ }
+        requires prepared { ∥ StandsFor stands_for self.old (IsPrepared region at (length from.now) Write) ∥₁ }
         ensures after { (c : Content) → stands_for self.old c → stands_for self.new (write_bytes_of c region at from.now) }
         ensures keeps { KeepsStores stands_for self.old self.new }
-        ensures frames { FramesStay (frame_at self.old) (frame_at self.new) };
+        ensures frames { FramesStay (translation_at self.old) (translation_at self.new) };
 
     /// Gives the region `to`, which has no store, the store of `from`, moved. [`NoFrame`] comes only under
     /// [`Rule::Full`](machine_types::Rule::Full), exactly where fewer frames are free than `from` has pages.
+    ///
+    /// The two conditions on stores may hold of two contents: which regions have a store is the same in all contents
+    /// that a space stands for, but a caller need not show that.
     fn fork(&mut self, from: u32, to: u32) -> Result<(), NoFrame>
         requires from { from < MOST_REGIONS }
         requires to { to < MOST_REGIONS }
@@ -222,8 +220,8 @@ pub trait Stores {
         ensures after { (c : Content) → stands_for self.old c → stands_for self.new (fork_of c from to).after }
         ensures begun { IsOk result → ∥ StandsFor stands_for self.new (HasStore to) ∥₁ }
         ensures keeps { KeepsOtherStores stands_for to self.old self.new }
-        ensures frames { OtherFramesStay (frame_at self.old) (frame_at self.new) to }
-        ensures refused { IsErr result → FramesStay (frame_at self.old) (frame_at self.new) };
+        ensures frames { OtherFramesStay (translation_at self.old) (translation_at self.new) to }
+        ensures refused { IsErr result → FramesStay (translation_at self.old) (translation_at self.new) };
 
     /// What a page holds at a granule, below [`PAGE_GRANULES`], without a touch. None comes exactly where the page is
     /// absent.
@@ -257,5 +255,12 @@ pub trait Stores {
         requires page { page < REGION_PAGES }
         requires some { ∥ StandsFor stands_for self.now Any ∥₁ }
         ensures answer { (c : Content) → stands_for self.now c → option_map standing result ≡ standing_of c region page }
-        ensures frame { option_map (λ t. t.frame.0) result ≡ frame_at self.now region page };
+        ensures is { result ≡ translation_at self.now region page };
+
+    /// Every content that it stands for is whole.
+    ghost is_whole: { (s : Self) (c : Content) → stands_for s c → IsWhole c };
+
+    /// A translation shows how the page stands in every content that the space stands for, and is there exactly where
+    /// the page is.
+    ghost is_shown: { (s : Self) (c : Content) → stands_for s c → (region page : ℕ) → option_map standing (translation_at s region page) ≡ standing_of c region page };
 }

@@ -1,20 +1,25 @@
--- One frame is written, and all others stay.
-use Rattle.std.proofs.Common.{◌≡◌, ℕ, zero, suc, List, [], ◌∷◌, ◌+◌, length, slice_set, refl, arith}
+-- Frames, and memories of frames.
+use Rattle.std.proofs.Common.{◌≡◌, ◌∙◌, ℕ, zero, suc, ◌^◌, ◌<◌, Bool, List, length, length-set, set, replicate, arith}
 use Rattle.std.proofs.lemmas.Grind.{common_steps}
-use Rattle.cap_format.specs.declared.TheConstants.{PAGE_GRANULES}
+use Rattle.std.proofs.lemmas.List.Elements.{All-set, All-replicate}
+use Rattle.cap_format.specs.Made.{null}
 use Rattle.cap_format.specs.declared.cap.Cap.{Cap}
-use Rattle.machine_types.specs.Granules.{with_number, with_bytes}
-use Rattle.tagged_memory.specs.Frames.{AreFrames}
+use Rattle.tagged_memory.specs.Frames.{IsFrame, AreFrames}
+use Rattle.tagged_memory.specs.Zipped.{zipped}
+use Rattle.tagged_memory.proofs.Zips.{zipped-set}
 
--- each is a frame still, where one is replaced by a frame
-pub AreFrames-set : (frames : List (List Cap)) (g : ℕ) (granules : List Cap) → AreFrames frames → length granules ≡ PAGE_GRANULES → AreFrames (slice_set frames g granules)
-AreFrames-set [] g granules are is f below = are f below
-AreFrames-set (frame ∷ frames) zero granules are is zero below = is
-AreFrames-set (frame ∷ frames) zero granules are is (suc f) below = are (suc f) below
-AreFrames-set (frame ∷ frames) (suc g) granules are is zero below = are zero (grind (arith, common_steps))
-AreFrames-set (frame ∷ frames) (suc g) granules are is (suc f) below = AreFrames-set frames g granules (λ k small. are (suc k) (omega arith)) is f (grind (arith, common_steps))
+-- a frame of zeros without a tag
+pub IsFrame-replicate : IsFrame (replicate 256 null)
+IsFrame-replicate = record { whole = omega arith; patterns = All-replicate (λ cap. cap.bits < 2 ^ 128) 256 null (omega arith) }
 
--- a frame in which bytes are stored has as many granules as before
-pub with_bytes-length : (granules : List Cap) (at : ℕ) (bytes : List ℕ) → length (with_bytes granules at bytes) ≡ length granules
-with_bytes-length granules at [] = refl
-with_bytes-length granules at (byte ∷ bytes) = let rest = with_bytes-length (with_number granules at 1 byte) (at + 1) bytes in grind (arith, common_steps)
+-- a frame that is kept as two lists, with another granule
+pub IsFrame-zipped : (words : List ℕ) (tags : List Bool) (g : ℕ) (cap : Cap) → IsFrame (zipped words tags) → cap.bits < 2 ^ 128 → IsFrame (zipped (set words g cap.bits) (set tags g cap.tag))
+IsFrame-zipped words tags g cap is fits =
+    let size : length (set (zipped words tags) g cap) ≡ 256 = length-set (zipped words tags) g cap ∙ is.whole in
+    rw (zipped-set words tags g cap) (record { whole = size; patterns = All-set (λ cap. cap.bits < 2 ^ 128) (zipped words tags) g cap fits is.patterns })
+
+-- so many frames that are one
+pub AreFrames-replicate : (count : ℕ) (granules : List Cap) → IsFrame granules → AreFrames (replicate count granules)
+AreFrames-replicate zero granules is f below = absurd (grind (arith, common_steps))
+AreFrames-replicate (suc count) granules is zero below = is
+AreFrames-replicate (suc count) granules is (suc f) below = AreFrames-replicate count granules is f (grind (arith, common_steps))

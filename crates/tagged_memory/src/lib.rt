@@ -1,4 +1,5 @@
-//! Physical memory: frames of bytes with a tag for each granule of 16 bytes.
+//! Physical memory: frames of [`PAGE_BYTES`](cap_format::PAGE_BYTES) bytes, with a tag for each granule of
+//! [`GRANULE_BYTES`](cap_format::GRANULE_BYTES) bytes.
 #![tactic(auto)]
 
 mod frame;

@@ -3,5 +3,5 @@ pub mod RunLemmas
 pub mod CallLemmas
 pub mod StepLemmas
 pub mod PageLemmas
-pub mod ReadyLemmas
+pub mod RequestLemmas
 pub mod HeadlineLemmas

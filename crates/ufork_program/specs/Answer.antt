@@ -4,10 +4,10 @@ use Rattle.std.specs.declared.option.Option.{Option}
 use Rattle.outside_io.specs.Parts.{err_part}
 use Rattle.outside_io.specs.Answers.{Answer, refusal}
 use Rattle.elf_loader.specs.FirstImage.{is_first_image}
-use Rattle.ufork_program.specs.declared.TheConstants.{MOST_STEPS}
+use Rattle.ufork_program.specs.Numbers.{most_steps}
 use Rattle.ufork_program.specs.Lines.{usage_line, cannot_read_line, not_built_line, done_line}
 use Rattle.ufork_program.specs.Machine.{start}
-use Rattle.ufork_program.specs.Page.{page_of}
+use Rattle.ufork_program.specs.Page.{image_page}
 use Rattle.ufork_program.specs.Run.{run_parts, run_end}
 
 -- a file name isn't empty and doesn't begin with `-`
@@ -35,8 +35,8 @@ not_built = refusal 19 not_built_line
 -- the parts of the steps, and then the line that says how many there were
 abbrev pub run_answer : List ℕ → Answer
 run_answer image =
-    let machine = start (page_of image) in
-    record { status = 0; parts = run_parts machine MOST_STEPS ++ err_part (done_line (run_end machine MOST_STEPS).steps) ∷ [] }
+    let machine = start (image_page image) in
+    record { status = 0; parts = run_parts machine most_steps ++ err_part (done_line (run_end machine most_steps).steps) ∷ [] }
 
 abbrev pub content_answer : List ℕ → Answer
 content_answer content = if is_first_image content then run_answer content else not_built

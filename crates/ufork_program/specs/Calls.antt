@@ -1,6 +1,6 @@
 -- The system calls so far, exit and write. After POSIX.1-2024; their numbers and registers are this project's own.
 use Rattle.std.specs.Prelude.{ℕ, ◌+◌, ◌-◌, ◌^◌, ◌%◌, ◌==◌, ◌&&◌, not, Bool, ◌≤◌, ⊤, nat_le, if◌then◌else◌, List, [], take, drop}
-use Rattle.cap_format.specs.declared.TheConstants.{FIRST_REGION, PAGE_BYTES, LOAD}
+use Rattle.cap_format.specs.Numbers.{first_region, page_bytes, permit_load}
 use Rattle.cap_format.specs.declared.cap.Cap.{Cap}
 use Rattle.cap_format.specs.Pattern.{address_of, kind_of}
 use Rattle.cap_format.specs.Rights.{allows, holds}
@@ -10,7 +10,7 @@ use Rattle.machine_types.specs.declared.errno.Errno.TheVariants.{Ebadf, Efault, 
 use Rattle.machine_types.specs.Errors.{error_number}
 use Rattle.ufork_program.specs.declared.calls.Called.{Called}
 use Rattle.ufork_program.specs.declared.calls.Called.TheVariants.{Answered, Exited}
-use Rattle.ufork_program.specs.declared.calls.TheConstants.{EXIT, WRITE, CONSOLE_OUTPUT}
+use Rattle.ufork_program.specs.Numbers.{exit_call, write_call, console_output}
 
 -- what a call does: it answers a number and prints a piece, or the process exits with a status
 pub data CallEffect : Type 0 where
@@ -29,24 +29,24 @@ refuses error = answers (2 ^ 64 - error_number error) []
 abbrev pub is_readable : Cap → ℕ → Bool
 is_readable cap count =
     let address = address_of cap.bits in
-    cap.tag && (not (kind_of cap.bits == 1) && (allows cap.bits LOAD && (holds cap.bits address count
-    && (nat_le FIRST_REGION address && nat_le (address + count) (FIRST_REGION + PAGE_BYTES)))))
+    cap.tag && (not (kind_of cap.bits == 1) && (allows cap.bits permit_load && (holds cap.bits address count
+    && (nat_le first_region address && nat_le (address + count) (first_region + page_bytes)))))
 
 -- write(x10, c11, x12): the descriptor is for writing, a count of 0 is answered, and the bytes may be read, in this order
 abbrev pub written : List Cap → List ℕ → CallEffect
 written registers page =
     let cap = register registers 11 in
     let count = integer registers 12 in
-    if integer registers 10 == CONSOLE_OUTPUT
+    if integer registers 10 == console_output
     then (if count == 0 then answers 0 []
-    else (if is_readable cap count then answers count (take count (drop (address_of cap.bits - FIRST_REGION) page)) else refuses Efault))
+    else (if is_readable cap count then answers count (take count (drop (address_of cap.bits - first_region) page)) else refuses Efault))
     else refuses Ebadf
 
 -- The call whose number is in x17. Another number is no call.
 unfoldable pub call_effect : List Cap → List ℕ → CallEffect
 call_effect registers page =
-    if integer registers 17 == EXIT then exits (integer registers 10 % 256)
-    else (if integer registers 17 == WRITE then written registers page else refuses Enosys)
+    if integer registers 17 == exit_call then exits (integer registers 10 % 256)
+    else (if integer registers 17 == write_call then written registers page else refuses Enosys)
 
 -- the code's account of a call, whose piece is a part of the page
 abbrev pub effect_of : List ℕ → Called → CallEffect
@@ -55,5 +55,5 @@ effect_of page (Exited status) = exits status
 
 -- the piece lies within the page
 abbrev pub IsOnPage : Called → Type 0
-IsOnPage (Answered value start count) = start + count ≤ PAGE_BYTES
+IsOnPage (Answered value start count) = start + count ≤ page_bytes
 IsOnPage (Exited status) = ⊤

@@ -5,8 +5,8 @@ use Rattle.outside_io.specs.States.{Outside, NoneRose}
 use Rattle.outside_io.specs.Parts.{console_of, Written, Cut}
 use Rattle.outside_io.specs.Answers.{IsAnswered, Ends}
 use Rattle.ufork_program.specs.Answer.{answer, file_word, cannot_read}
-use Rattle.ufork_program.specs.Ready.{answer_of, IsReadyFor, HasWordsCause, HasFilesCause}
-use Rattle.ufork_program.specs.declared.ready.Ready.{Ready}
+use Rattle.ufork_program.specs.Request.{answer_of, IsRequestOf, HasWordsCause, HasFilesCause}
+use Rattle.ufork_program.specs.declared.request.Request.{Request}
 
 -- Where no count rose, the status is that of the answer, and the output and the errors hold what they held followed by
 -- its parts; or memory was wanted, and nothing was written.
@@ -36,10 +36,10 @@ IsCutShort words old new =
 
 -- how a call went, from which all that it promises follows
 pub record Went (words : List (List ℕ)) (old new : Outside) (status : ℕ) : Type 0 where
-  pub ready : Ready
-  pub words_cause : HasWordsCause words ready
-  pub seen : IfSome old.files.contents (λ contents. IsReadyFor words contents ready)
-  pub files_cause : HasFilesCause words old.files new.files ready
+  pub request : Request
+  pub words_cause : HasWordsCause words request
+  pub seen : IfSome old.files.contents (λ contents. IsRequestOf words contents request)
+  pub files_cause : HasFilesCause words old.files new.files request
   pub contents_kept : new.files.contents ≡ old.files.contents
   pub input_kept : new.input ≡ old.input
-  pub ends : Ends (answer_of words ready) (console_of old) (console_of new) status
+  pub ends : Ends (answer_of words request) (console_of old) (console_of new) status

@@ -1,3 +1,4 @@
+pub mod Numbers
 pub mod Lines
 pub mod Page
 pub mod Machine
@@ -5,5 +6,5 @@ pub mod Calls
 pub mod Steps
 pub mod Run
 pub mod Answer
-pub mod Ready
+pub mod Request
 pub mod Headline

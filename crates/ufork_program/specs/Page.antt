@@ -1,7 +1,7 @@
 -- The page of an image.
 use Rattle.std.specs.Prelude.{ℕ, ◌-◌, List, ◌++◌, length, drop, replicate}
-use Rattle.elf_loader.specs.declared.TheConstants.{HEADER_BYTES, FIRST_IMAGE_BYTES}
+use Rattle.elf_loader.specs.Numbers.{header_bytes, first_image_bytes}
 
 -- the bytes behind the headers, and then zeros
-abbrev pub page_of : List ℕ → List ℕ
-page_of image = drop HEADER_BYTES image ++ replicate (FIRST_IMAGE_BYTES - length image) 0
+abbrev pub image_page : List ℕ → List ℕ
+image_page image = drop header_bytes image ++ replicate (first_image_bytes - length image) 0

@@ -2,7 +2,7 @@
 use Rattle.std.specs.Prelude.{◌≡◌, ℕ, ◌+◌, ◌≤◌, ⊤, false, List, [], ◌∷◌, take, drop, Some, None}
 use Rattle.std.specs.declared.option.Option.{Option}
 use Rattle.outside_io.specs.Parts.{Part, out_part, err_part}
-use Rattle.cap_format.specs.declared.TheConstants.{PAGE_BYTES}
+use Rattle.cap_format.specs.Numbers.{page_bytes}
 use Rattle.cap_format.specs.Made.{from_int}
 use Rattle.cheri_step.specs.declared.first.FirstEnd.{FirstEnd}
 use Rattle.cheri_step.specs.declared.first.FirstEnd.TheVariants.{Next, Call, Fault}
@@ -63,5 +63,5 @@ IsEventOf m (Ended status) = ((step_of m).piece ≡ []) × ((step_of m).ended �
 -- the piece lies within the page
 abbrev pub IsWithinPage : Event → Type 0
 IsWithinPage Quiet = ⊤
-IsWithinPage (Printed start count) = start + count ≤ PAGE_BYTES
+IsWithinPage (Printed start count) = start + count ≤ page_bytes
 IsWithinPage (Ended status) = ⊤

@@ -5,14 +5,16 @@
 #![tactic(auto)]
 
 mod calls;
+mod laws;
 mod lines;
 mod machine;
-mod ready;
+mod request;
 mod run;
 mod top;
 mod words;
 
 use cap_format::{EXECUTE, LOAD, LOAD_CAPABILITY, STORE, STORE_CAPABILITY};
+pub use laws::constants_are_fixed;
 pub use top::ufork;
 
 /// The most steps of a run so far: one for each of the page's 1024 words, and one that finds no page.

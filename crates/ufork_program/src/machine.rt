@@ -1,6 +1,6 @@
 // The machine of one process, over one page.
 ghost use Rattle.std.specs.Prelude.{◌≡◌, ◌≤◌, ◌<◌, ◌+◌, ◌++◌, IsTrue, take, drop, length};
-ghost use Rattle.ufork_program.specs.Page.{page_of};
+ghost use Rattle.ufork_program.specs.Page.{image_page};
 
 use crate::calls::{Called, call};
 use crate::{CODE_PERMISSIONS, DATA_PERMISSIONS, MOST_STEPS};
@@ -45,11 +45,12 @@ impl FirstMachine {
     ghost use Rattle.ufork_program.specs.Machine.{start};
     ghost use Rattle.ufork_program.specs.Steps.{step_of, IsEventOf, IsWithinPage};
 
-    /// The machine at its start, for an image of 4096 to 8192 bytes: the headers, and then the page.
+    /// The machine at its start, for an image of [`HEADER_BYTES`] to [`FIRST_IMAGE_BYTES`] bytes: the headers, and then
+    /// the page.
     pub fn new(image: &[u8]) -> FirstMachine
         requires long { HEADER_BYTES ≤ length image.now }
         requires short { length image.now ≤ FIRST_IMAGE_BYTES }
-        ensures { result ≡ start (page_of image.now) }
+        ensures { result ≡ start (image_page image.now) }
     {
         let mut regs = Regs::new();
         regs.put(2, Cap::root(0, DATA_PERMISSIONS));
@@ -126,7 +127,7 @@ impl FirstMachine {
 fn first_page(image: &[u8]) -> [u8; PAGE_BYTES]
     requires long { HEADER_BYTES ≤ length image.now }
     requires short { length image.now ≤ FIRST_IMAGE_BYTES }
-    ensures { result ≡ page_of image.now }
+    ensures { result ≡ image_page image.now }
 {
     let mut page = [0; PAGE_BYTES];
     put_front(&mut page, &image[HEADER_BYTES..]);

@@ -5,12 +5,12 @@ ghost use Rattle.outside_io.specs.States.{outside, SinksStill, SinkRose, CountsB
 ghost use Rattle.outside_io.specs.Parts.{console, console_of, Written};
 ghost use Rattle.outside_io.specs.Answers.{Answers, refusal, write_fault, memory_wanted};
 ghost use Rattle.ufork_program.specs.Answer.{file_word, cannot_read, run_answer};
-ghost use Rattle.ufork_program.specs.Ready.{answer_of, IsUsable};
+ghost use Rattle.ufork_program.specs.Request.{answer_of, IsUsable};
 ghost use Rattle.ufork_program.specs.Headline.{IsAnswer, FileFailed, IsCutShort, Went};
 
 use crate::lines::{write_cannot_read, write_done};
 use crate::machine::FirstMachine;
-use crate::ready::{Ready, Refusal, prepare};
+use crate::request::{CommandRefusal, Request, read_request};
 use crate::run::run_machine;
 use elf_loader::{FIRST_IMAGE_BYTES, HEADER_BYTES};
 use outside_io::{Failed, Files, Sink, Source};
@@ -44,25 +44,25 @@ fn run_image<O: Sink, E: Sink>(image: &[u8], out: &mut O, err: &mut E) -> Result
 }
 
 // Writes what is answered by what was read.
-fn answer_ready<O: Sink, E: Sink>(
+fn answer_request<O: Sink, E: Sink>(
     words: &[String],
-    ready: Ready,
+    request: Request,
     out: &mut O,
     err: &mut E,
 ) -> Result<u8, Failed>
-    requires { IsUsable (map string_bytes words.now) ready }
-    ensures { Answers (answer_of (map string_bytes words.now) ready) (console (O.state out.old) (E.state err.old)) (console (O.state out.new) (E.state err.new)) result }
+    requires { IsUsable (map string_bytes words.now) request }
+    ensures { Answers (answer_of (map string_bytes words.now) request) (console (O.state out.old) (E.state err.old)) (console (O.state out.new) (E.state err.new)) result }
 {
-    match ready {
-        Ready::Refused(Refusal::Usage) => refuse(2, b"ufork: usage\n", out, err),
-        Ready::Refused(Refusal::CannotRead { place }) => refuse_name(
+    match request {
+        Request::Refused(CommandRefusal::Usage) => refuse(2, b"ufork: usage\n", out, err),
+        Request::Refused(CommandRefusal::CannotRead { place }) => refuse_name(
             words[place].as_str(),
             out,
             err,
         ),
-        Ready::Refused(Refusal::NotBuilt) => refuse(19, b"ufork: not built\n", out, err),
-        Ready::NoMemory => Ok(10),
-        Ready::Run { image } => run_image(&image, out, err),
+        Request::Refused(CommandRefusal::NotBuilt) => refuse(19, b"ufork: not built\n", out, err),
+        Request::NoMemory => Ok(10),
+        Request::Run { image } => run_image(&image, out, err),
     }
 }
 
@@ -89,8 +89,8 @@ fn read_and_write<F: Files, I: Source, O: Sink, E: Sink>(
         (outside (F.state files.old) (I.state input.now) (O.state out.old) (E.state err.old))
         (outside (F.state files.new) (I.state input.now) (O.state out.new) (E.state err.new)) result }
 {
-    let ready = prepare(alloc, words, files);
-    status_of(answer_ready(words, ready, out, err))
+    let request = read_request(alloc, words, files);
+    status_of(answer_request(words, request, out, err))
 }
 
 /// Does all that the program does, and gives the status with which it ends.

@@ -1,4 +1,5 @@
-use Rattle.stores.specs.Known.{Any, HasStore}
+use Rattle.stores.specs.Known.{Any}
+use Rattle.contents.specs.Conditions.{HasStore}
 use Rattle.stores.proofs.Keeping.{stands-weaker}
 use Rattle.stores.proofs.callers.add_and_fork.Goals as goal
 

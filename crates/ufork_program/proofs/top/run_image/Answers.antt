@@ -4,13 +4,13 @@ use Rattle.outside_io.proofs.PartLemmas.{Prints-err, Prints-stop, Prints-then, P
 use Rattle.outside_io.proofs.AnswerLemmas.{Answers-failed}
 use Rattle.ufork_program.specs.Lines.{done_line}
 use Rattle.ufork_program.specs.Machine.{start}
-use Rattle.ufork_program.specs.Page.{page_of}
+use Rattle.ufork_program.specs.Page.{image_page}
 use Rattle.ufork_program.specs.Run.{run_parts, run_end}
 use Rattle.ufork_program.proofs.top.run_image.Goals as goal
 
 pub returns-in_err-write_done : goal.returns-in_err-write_done
 returns-in_err-write_done g c =
-    let machine = start (page_of c.args.image.now) in
+    let machine = start (image_page c.args.image.now) in
     let end = run_end machine 1025 in
     let steps : c.steps.result ≡ end.steps = c.steps.ensures ∙ ap (λ m. m.steps) (c.in_ok-run_machine.ensures.end ∙ ap (λ m. run_end m 1025) c.new-machine.ensures) in
     Answers-failed _ _ _ _ _ c.from_residual-in_err-write_done.ensures.1
@@ -21,7 +21,7 @@ returns-in_err-write_done g c =
 
 pub returns : goal.returns
 returns g c =
-    let machine = start (page_of c.args.image.now) in
+    let machine = start (image_page c.args.image.now) in
     let end = run_end machine 1025 in
     let steps : c.steps.result ≡ end.steps = c.steps.ensures ∙ ap (λ m. m.steps) (c.in_ok-run_machine.ensures.end ∙ ap (λ m. run_end m 1025) c.new-machine.ensures) in
     record {

@@ -1,14 +1,14 @@
-use Rattle.std.proofs.Common.{◌∙◌, ap, ◌&&◌, nat_lt, arith}
+use Rattle.std.proofs.Common.{◌∙◌, ap, arith}
 use Rattle.std.proofs.lemmas.Grind.{common_steps}
-use Rattle.cap_format.specs.declared.TheConstants.{MOST_REGIONS, REGION_PAGES}
 use Rattle.frame_pool.specs.Pool.{used_count}
 use Rattle.frame_owners.specs.Homes.{owner}
-use Rattle.stores.proofs.NewBoards.{unused-count, nobody-shares, empty-choice}
+use Rattle.page_table.specs.Entries.{Entries}
+use Rattle.stores.proofs.NewBoards.{unused-count, nobody-shares}
 use Rattle.stores.proofs.board.Board.new.Goals as goal
 
 pub returns-clause-empty : goal.returns-clause-empty
 returns-clause-empty c = record {
-  entries = λ region page. empty-choice (nat_lt region MOST_REGIONS && nat_lt page REGION_PAGES) _ (c.in_ok-new-4.ensures.empty region page);
+  entries = λ region page. ap (λ (entries : Entries). entries region page) c.in_ok-new-4.ensures;
   taken = ap used_count c.in_ok-new-2.ensures ∙ unused-count c.args.frames;
   sharers = λ f. ap (λ owners. (owner owners f).sharers) c.in_ok-new-3.ensures ∙ nobody-shares c.args.frames f;
   memory = grind (arith, common_steps);

@@ -1,11 +1,11 @@
 use Rattle.std.proofs.Common.{arith, refl}
 use Rattle.std.proofs.lemmas.Int.{ints}
-use Rattle.ufork_program.proofs.PageLemmas.{length-page_of}
+use Rattle.ufork_program.proofs.PageLemmas.{length-image_page}
 use Rattle.ufork_program.proofs.machine.FirstMachine.new.Goals as goal
 
 pub invariant_of-result : goal.invariant_of-result
 invariant_of-result c = record {
-  page_is = rw c.first_page.ensures (length-page_of c.args.image.now c.requires.long c.requires.short);
+  page_is = rw c.first_page.ensures (length-image_page c.args.image.now c.requires.long c.requires.short);
   running = λ live. record {
     sound = record {
       code = record { tagged = rw c.root-2.ensures.is refl; plain = c.root-2.ensures.plain; executes = rw c.root-2.ensures.perms refl; aligned = rw c.root-2.ensures.address refl };

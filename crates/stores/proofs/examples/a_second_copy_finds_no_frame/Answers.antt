@@ -1,5 +1,0 @@
-use Rattle.stores.proofs.WorkedOut.{second-copy}
-use Rattle.stores.proofs.examples.a_second_copy_finds_no_frame.Goals as goal
-
-pub returns : goal.returns
-returns c = second-copy

@@ -1,5 +1,0 @@
-use Rattle.stores.proofs.ForkLemmas.{fork-child, fork-shares, fork-refused, fork-copies}
-use Rattle.stores.proofs.laws.fork_copies_the_store.Goals as goal
-
-pub returns : goal.returns
-returns c = record { child = fork-child; shares = fork-shares; refused = fork-refused; copies = fork-copies }
