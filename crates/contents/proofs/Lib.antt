@@ -45,3 +45,4 @@ pub mod WrittenPlaces
 pub mod WrittenBytes
 pub mod AddedPages
 pub mod LookedAt
+pub mod KeptAccounts

@@ -1,7 +1,7 @@
 -- Why a transfer makes its touches.
 use Rattle.std.proofs.Common.{◌≡◌, ◌≢◌, ◌≤◌, ◌<◌, ◌+◌, ◌-◌, ◌%◌, ◌⊎◌, inl, inr, ℕ, refl, sym, ◌∙◌, ap, subst, arith, Bool, true, false, ◌||◌, cond, nat_le, is_some, Option, Some, None, Result, Ok, Err, List, [], ◌∷◌, length}
 use Rattle.std.specs.Option.{option_map}
-use Rattle.std.proofs.lemmas.Bool.Decides.{leb_tells}
+use Rattle.std.proofs.lemmas.Bool.Decides.{leb_tells, nat_tests}
 use Rattle.cap_format.specs.declared.cap.Cap.{Cap}
 use Rattle.machine_types.specs.declared.config.Rule.{Rule}
 use Rattle.machine_types.specs.declared.config.Rule.TheVariants as rule
@@ -16,14 +16,16 @@ use Rattle.machine_types.specs.Granules.{granule}
 use Rattle.machine_types.specs.Stores.{Page}
 use Rattle.machine_types.specs.Accounts.{Class, is_member, has_member}
 use Rattle.machine_types.specs.Touches.{touches, is_shared, is_foreign}
-use Rattle.contents.specs.Content.{Content, page_at, class_at}
-use Rattle.contents.specs.Accesses.{untouched, note_of, touched, page_of_place, granule_of_place}
-use Rattle.contents.specs.Transfers.{tagged_in, overlaps_tag, Piece, made_with, two_notes, prepare_next, prepare_pieces, prepare_of}
-use Rattle.contents.specs.Looks.{peek_of, is_home, is_alone}
+use Rattle.contents.specs.Content.{Content, CallOutcome, page_at, class_at, is_full}
+use Rattle.contents.specs.Accesses.{untouched, note_in, note_of, touched, page_of_place, granule_of_place}
+use Rattle.contents.specs.Transfers.{tagged_in, overlaps_tag, Piece, made_with, first_or_none, two_notes, prepare_next, prepare_pieces, prepare_of}
+use Rattle.contents.specs.Looks.{peek_of, standing_of, is_home, is_alone}
 use Rattle.contents.specs.Reading.{tag_seen}
 use Rattle.contents.specs.Whole.{IsWhole}
 use Rattle.contents.specs.Touching.{OverlapsTag, WasNeeded}
-use Rattle.contents.proofs.TouchLemmas.{IsNoted, none, copied, moved, noted}
+use Rattle.contents.specs.Touching.{WantsFrame}
+use Rattle.std.proofs.lemmas.Bool.{eqb-true}
+use Rattle.contents.proofs.TouchLemmas.{IsNoted, none, copied, moved, noted, note-lacks}
 use Rattle.contents.proofs.ListSearches.{find-passes}
 use Rattle.contents.proofs.ListCounts.{count-found}
 use Rattle.contents.proofs.WholeTouches.{touch-whole}
@@ -220,3 +222,114 @@ prepare-needed c access region at n whole most first second = by (prepare_of c r
     by : (r : Result (List Note) NoFrame) → AnswerNeeds c access region at n r → r ≡ Ok (first ∷ second ∷ []) → Need c access region at n c first × Need c access region at n (touched c region first) second
     by (Err refused) is h = absurd (cc)
     by (Ok notes) is h = is first second (cc)
+
+-- Refusals.
+
+-- a class whose touch finds no frame is touched, and has several members
+lacks-shared : (d : Content) (access : Access) (region page : ℕ) (tagged : Bool) (class : Class) → note_in d access region page tagged (Some class) ≡ None
+    → (touches d.rule access class region tagged ≡ true) × (is_shared class ≡ true)
+lacks-shared d access region page tagged class = by (touches d.rule access class region tagged) (is_shared class) (is_full d)
+  where
+    by : (t s f : Bool) → cond t (option_map (λ (touched : Touched). record { page = page; touched = touched }) (cond s (cond f None (Some Copied)) (Some Moved))) (Some untouched) ≡ None → (t ≡ true) × (s ≡ true)
+    by true true f e = (refl, refl)
+    by true false f e = absurd (cc)
+    by false s f e = absurd (cc)
+
+-- a class of several is not one of a page alone
+several-apart : (class : Class) → is_shared class ≡ true → is_alone (Some class) ≡ false
+several-apart class h = grind (arith, nat_tests)
+
+module _ (c : Content) (access : Access) (region at n : ℕ) where
+  -- a piece that finds no frame wants one
+  piece-wants : (d : Content) (place past count : ℕ) → IsWhole d → place ≡ at + past → past + count ≤ n → 1 ≤ count → count ≤ 4096 - place % 4096
+      → note_of d access region (page_of_place place) (overlaps_tag d region place count) ≡ None → WantsFrame d access region at n
+  piece-wants d place past count whole place-is within some room h = by (class_at d region (page_of_place place)) refl h
+    where
+      at-place : page_of_place place ≡ page_of_place (at + past)
+      at-place = ap page_of_place place-is
+
+      wants : (class : Class) → class_at d region (page_of_place place) ≡ Some class → touches d.rule access class region (overlaps_tag d region place count) ≡ true → is_shared class ≡ true → WantsFrame d access region at n
+      wants class member touch several =
+          let p = there-of d region (page_of_place place) class whole member in
+          record {
+            byte = past;
+            within = omega arith;
+            before = record { rights = p.0.rights; home = is_home region (Some class); alone = is_alone (Some class) };
+            there = ap (λ (page : ℕ). standing_of d region page) (sym at-place) ∙ stands d region (page_of_place place) p.0 (Some class) p.1 member;
+            shared = several-apart class several;
+            unfit = either-cause (touch-cause d.rule access class region (overlaps_tag d region place count) (members-of d region (page_of_place place) class member) touch);
+            pointers = λ is other. subst (OverlapsTag d region at n) at-place (piece-overlaps d access region at n place past count place-is within room ((foreign-and-tagged (is_foreign class region) (overlaps_tag d region place count)).0 (sym (pointer-touches d.rule access class region (overlaps_tag d region place count) is other) ∙ touch)).1);
+            full = eqb-true _ _ (note-lacks d access region (page_of_place place) (overlaps_tag d region place count) (class_at d region (page_of_place place)) h);
+          }
+        where
+          either-cause : (is_home region (Some class) ≡ false) ⊎ ((access ≡ Write) × (is_alone (Some class) ≡ false)) → (is_home region (Some class) ≡ false) ⊎ (access ≡ Write)
+          either-cause (inl away) = inl away
+          either-cause (inr both) = inr both.0
+
+      by : (o : Option Class) → class_at d region (page_of_place place) ≡ o → note_in d access region (page_of_place place) (overlaps_tag d region place count) o ≡ None → WantsFrame d access region at n
+      by None e f = absurd (cc)
+      by (Some class) e f = let both = lacks-shared d access region (page_of_place place) (overlaps_tag d region place count) class f in wants class e both.0 both.1
+
+  -- the refusal of an outcome was needed
+  abbrev RefusalNeeds : CallOutcome (Result (List Note) NoFrame) → Type 0
+  RefusalNeeds o = (refused : NoFrame) → o.answer ≡ Err refused → WantsFrame o.after access region at n × Need c access region at n c refused.before
+
+  -- one that was made before was needed, too
+  before-needed : (d : Content) (first : Note) → WantsFrame d access region at n → Need c access region at n c first → (first.touched ≡ No → first ≡ untouched)
+      → RefusalNeeds (record { answer = Err (record { before = first_or_none (made_with [] first first.touched) }); after = d })
+  before-needed d first wants is plain refused e = (wants, by (none-or-some first.touched) e)
+    where
+      Answer : Type 0
+      Answer = Result (List Note) NoFrame
+
+      refusal : NoFrame → Answer
+      refusal r = Err r
+
+      by : (first.touched ≡ No) ⊎ (first.touched ≢ No) → refusal (record { before = first_or_none (made_with [] first first.touched) }) ≡ refusal refused → Need c access region at n c refused.before
+      by (inl lacks) e = let f = rw lacks at e in let same : untouched ≡ refused.before = cc in subst (Need c access region at n c) same (none-need c access region at n c)
+      by (inr some) e =
+          let made : first ≡ refused.before = let one = made-some [] first first.touched some in cc in subst (Need c access region at n c) made is
+
+  -- on one page
+  one-refused : IsWhole c → 1 ≤ n → n ≤ 4096 - at % 4096 → RefusalNeeds (prepare_pieces region access (record { at = at; count = n } ∷ []) c [])
+  one-refused whole least room = by (note_of c access region (page_of_place at) (overlaps_tag c region at n)) refl
+    where
+      by : (o : Option Note) → note_of c access region (page_of_place at) (overlaps_tag c region at n) ≡ o → RefusalNeeds (prepare_next region c [] (prepare_pieces region access []) o)
+      by None e refused f = (piece-wants c at 0 n whole (omega arith) (omega arith) least room e, let same : untouched ≡ refused.before = cc in subst (Need c access region at n c) same (none-need c access region at n c))
+      by (Some note) e refused f = absurd (cc)
+
+  -- and on two
+  two-refused : (room : ℕ) → IsWhole c → n ≤ 4096 → room ≡ 4096 - at % 4096 → room < n
+      → RefusalNeeds (prepare_pieces region access (record { at = at; count = room } ∷ record { at = at + room; count = n - room } ∷ []) c [])
+  two-refused room whole most room-is more = by (note_of c access region (page_of_place at) (overlaps_tag c region at room)) refl
+    where
+      second : Piece
+      second = record { at = at + room; count = n - room }
+
+      by-second : (first : Note) → note_of c access region (page_of_place at) (overlaps_tag c region at room) ≡ Some first → (o : Option Note)
+          → note_of (touched c region first) access region (page_of_place (at + room)) (overlaps_tag (touched c region first) region (at + room) (n - room)) ≡ o
+          → RefusalNeeds (prepare_next region (touched c region first) (made_with [] first first.touched) (prepare_pieces region access []) o)
+      by-second first e None f =
+          let is = noted c access region _ _ first e in
+          before-needed (touched c region first) first
+          (piece-wants (touched c region first) (at + room) room (n - room) (touch-whole c access region _ _ first e whole) refl (omega arith) (omega arith) (omega arith) f)
+          (piece-needed c access region at n at 0 room first whole (omega arith) (omega arith) (omega arith) is) (noted-plain c access region at n c _ _ first is)
+      by-second first e (Some note) f = λ refused g. absurd (cc)
+
+      by : (o : Option Note) → note_of c access region (page_of_place at) (overlaps_tag c region at room) ≡ o → RefusalNeeds (prepare_next region c [] (prepare_pieces region access (second ∷ [])) o)
+      by None e = λ refused f. (piece-wants c at 0 room whole (omega arith) (omega arith) (omega arith) (omega arith) e, let same : untouched ≡ refused.before = cc in subst (Need c access region at n c) same (none-need c access region at n c))
+      by (Some first) e = by-second first e _ refl
+
+  -- each refusal of a transfer was needed
+  pub refusal-needed : IsWhole c → 1 ≤ n → n ≤ 4096 → RefusalNeeds (prepare_of c region at n access)
+  unfolding prepare_of
+  refusal-needed whole least most = by (nat_le n (4096 - at % 4096)) (leb_tells n (4096 - at % 4096))
+    where
+      pieces : Bool → List Piece
+      pieces b = cond b (record { at = at; count = n } ∷ []) (record { at = at; count = 4096 - at % 4096 } ∷ record { at = at + (4096 - at % 4096); count = n - (4096 - at % 4096) } ∷ [])
+
+      by : (b : Bool) → ((b ≡ true) × (n ≤ 4096 - at % 4096)) ⊎ ((b ≡ false) × (4096 - at % 4096 < n)) → RefusalNeeds (prepare_pieces region access (pieces b) c [])
+      by true (inl (_, room)) = one-refused whole least room
+      by true (inr (e, _)) = absurd (cc)
+      by false (inl (e, _)) = absurd (cc)
+      by false (inr (_, more)) = two-refused (4096 - at % 4096) whole most refl more

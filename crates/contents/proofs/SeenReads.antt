@@ -36,7 +36,7 @@ loaded {A} c access region at value answer = by (reach c access region at) refl
     by (Ok e) f h = record { page = e.page; there = (reached c access region at e f).there; answered = cc }
 
 -- the number at a place of a page is seen
-number-there : (c : Content) (region at size : ℕ) (p : Page) → page_at c region (page_of_place at) ≡ Some p → number_seen c region at size ≡ Some (number_at p.granules (byte_of_place at) size)
+pub number-there : (c : Content) (region at size : ℕ) (p : Page) → page_at c region (page_of_place at) ≡ Some p → number_seen c region at size ≡ Some (number_at p.granules (byte_of_place at) size)
 unfolding peek_of
 number-there c region at size p there = rw there (ap (λ (byte : ℕ). Some (bytes_of byte size (granule p.granules (granule_of_place at)))) (sym (same-byte at)))
 

@@ -7,7 +7,7 @@ use Rattle.machine_types.specs.declared.touches.Note.{Note}
 use Rattle.machine_types.specs.declared.touches.Touched.TheVariants.{Copied, Moved}
 use Rattle.machine_types.specs.Lists.{count_of}
 use Rattle.machine_types.specs.Accounts.{Class, is_member, has_member, class_of}
-use Rattle.machine_types.specs.Touches.{rehomed, without_member, account_after}
+use Rattle.machine_types.specs.Touches.{is_shared, rehomed, without_member, account_after}
 use Rattle.contents.specs.Content.{Content, class_at}
 use Rattle.contents.specs.Accesses.{note_of, touched}
 use Rattle.contents.specs.Looks.{rights_of}
@@ -62,3 +62,10 @@ touch-still c access region page tagged note r p whole e elsewhere = record { ri
     by _ (moved class there _ sole) (inr other) =
         let one : length class.members ≤ 1 = ltb-false _ _ sole in
         class-same r (class_at c r p) (class_of (account_after Moved region page c.account) r p) (moved-class c.account region page r p class (once-whole c region page whole) other there one)
+
+-- where the only page of a class moves, each other page has its class still
+pub moved-class-of : (c : Content) (region page r p : ℕ) (sole : Class) → IsWhole c → IsOther region page r p → class_at c region page ≡ Some sole → is_shared sole ≡ false
+    → class_of (account_after Moved region page c.account) r p ≡ class_at c r p
+moved-class-of c region page r p sole whole other there single =
+    let one : length sole.members ≤ 1 = ltb-false _ _ single in
+    moved-class c.account region page r p sole (once-whole c region page whole) other there one

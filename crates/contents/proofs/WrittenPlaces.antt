@@ -24,7 +24,8 @@ use Rattle.contents.specs.Accesses.{untouched, note_in, note_of, touched, Reache
 use Rattle.contents.specs.Regions.{seed_cap_of}
 use Rattle.contents.specs.Looks.{peek_of, rights_of}
 use Rattle.contents.specs.Conditions.{IsFitIn, IsOwn}
-use Rattle.contents.specs.Reading.{seen, tag_seen}
+use Rattle.contents.specs.Reading.{seen, tag_seen, number_seen}
+use Rattle.contents.proofs.SeenReads.{number-there}
 use Rattle.contents.specs.Whole.{IsWhole}
 use Rattle.contents.specs.Writing.{IsReadable}
 use Rattle.contents.proofs.Fits.{own-untouched}
@@ -199,3 +200,13 @@ pub seed-read : (c : Content) (region at : ℕ) (cap : Cap) → IsWhole c → Is
     → (read_cap_of (seed_cap_of c region at cap) region at).answer ≡ Ok (cap, untouched)
 unfolding seed_cap_of
 seed-read c region at cap whole own readable = cap-read_back c _ region at cap whole (seeded c region at (λ granules. slice_set granules (granule_of_place at) cap) whole own) readable
+
+-- The number is seen, also where the page may not be read.
+pub number-shown : (c : Content) (region at size v : ℕ) (note : Note) → IsWhole c → IsSize size → at % size ≡ 0 → (write_of c region at size v).answer ≡ Ok note
+    → number_seen (write_of c region at size v).after region at size ≡ Some (v % 2 ^ (8 * size))
+unfolding write_of
+number-shown c region at size v note whole is aligned h =
+    let change : List Cap → List Cap = λ granules. with_number granules (byte_of_place at) size v in
+    let was = stored c region at change note h in
+    number-there _ region at size (page_with change was.page) was.there
+    ∙ ap (λ (n : ℕ). Some n) (number_at-with_number_same was.page.granules (byte_of_place at) size v (page-place at size was.page.granules (long-before c _ region at change was whole) is aligned))

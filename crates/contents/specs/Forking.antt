@@ -1,5 +1,5 @@
 -- Laws of forks and ends: what a child has, whom its pages share with, and what an end leaves.
-use Rattle.std.specs.Prelude.{ℕ, ◌≡◌, ◌≢◌, ◌<◌, ◌+◌, ◌==◌, ◌&&◌, ◌↔◌, Bool, true, false, not, is_some, Option, Some, None, Ok, Err, All, length}
+use Rattle.std.specs.Prelude.{ℕ, ◌≡◌, ◌≢◌, ◌≤◌, ◌<◌, ◌+◌, ◌==◌, ◌&&◌, ◌↔◌, Bool, true, false, not, is_some, Option, Some, None, Ok, Err, All, length}
 use Rattle.std.specs.List.{list_any}
 use Rattle.std.specs.Option.{option_map}
 use Rattle.cap_format.specs.declared.cap.Cap.{Cap}
@@ -60,3 +60,7 @@ pub record EndsFreeFrames : Type 0 where
   pub others : (c : Content) (region r p s q : ℕ) → r ≢ region → s ≢ region → shares (end_of c region) r p s q ≡ shares c r p s q
   pub homes : (c : Content) (region r p : ℕ) → r ≢ region → home_of (end_of c region) r p ≡ home_of c r p
   pub own : (c : Content) (region page : ℕ) → home_of (end_of c region) region page ≡ None
+
+-- Under `full` a fork is done exactly where it is not refused: there is no third answer.
+abbrev pub ForksAreDone : Type 0
+ForksAreDone = (c : Content) (from to : ℕ) → IsWhole c → c.rule ≡ Full → ((fork_of c from to).answer ≡ Ok tt) ↔ (used_frames c + length (numbers_in (c.stores from)) ≤ c.frames)

@@ -18,3 +18,4 @@ pub mod Standing
 pub mod Looking
 pub mod Agreeing
 pub mod Examples
+pub mod Sharing

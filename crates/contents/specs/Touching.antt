@@ -117,3 +117,19 @@ abbrev pub PreparedTouchesAreNeeded : Type 0
 PreparedTouchesAreNeeded = (c : Content) (region at n : ℕ) (access : Access) (first second : Note) → IsWhole c → 1 ≤ n → n ≤ most_transfer
     → (prepare_of c region at n access).answer ≡ Ok (first ∷ second ∷ [])
     → (first.touched ≢ No → WasNeeded c access region at n first) × (second.touched ≢ No → WasNeeded (touched c region first) access region at n second)
+
+-- A page under the bytes needs a copy, and all frames are used.
+pub record WantsFrame (c : Content) (access : Access) (region at n : ℕ) : Type 0 where
+  pub byte : ℕ
+  pub within : byte < n
+  pub before : Standing
+  pub there : standing_of c region (page_of_place (at + byte)) ≡ Some before
+  pub shared : before.alone ≡ false
+  pub unfit : (before.home ≡ false) ⊎ (access ≡ Write)
+  pub pointers : c.rule ≡ rule.Pointer → access ≢ Write → OverlapsTag c region at n (page_of_place (at + byte))
+  pub full : used_frames c ≡ c.frames
+
+-- A transfer is refused only where a page needs a copy in what the touch before left, and that touch was needed.
+abbrev pub PreparedRefusalsAreNeeded : Type 0
+PreparedRefusalsAreNeeded = (c : Content) (region at n : ℕ) (access : Access) (refused : NoFrame) → IsWhole c → 1 ≤ n → n ≤ most_transfer → (prepare_of c region at n access).answer ≡ Err refused
+    → WantsFrame (prepare_of c region at n access).after access region at n × (refused.before.touched ≢ No → WasNeeded c access region at n refused.before)

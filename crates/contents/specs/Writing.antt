@@ -13,7 +13,7 @@ use Rattle.contents.specs.Regions.{begin_of, add_page_of, seed_cap_of}
 use Rattle.contents.specs.Transfers.{byte_in, read_bytes_of, write_bytes_of}
 use Rattle.contents.specs.Looks.{peek_of, rights_of}
 use Rattle.contents.specs.Conditions.{IsOwn, Covers}
-use Rattle.contents.specs.Reading.{seen, tag_seen}
+use Rattle.contents.specs.Reading.{seen, tag_seen, number_seen}
 use Rattle.contents.specs.Whole.{IsWhole}
 
 -- the page at a place is there and may be read
@@ -62,3 +62,8 @@ pub record AllElseStays : Type 0 where
   pub bytes_bytes : (c : Content) (region at k : ℕ) (bytes : List ℕ) → (k < at) ⊎ (at + length bytes ≤ k) → byte_seen (write_bytes_of c region at bytes) region k ≡ byte_seen c region k
   pub added : (c : Content) (region page rights : ℕ) (bytes : List ℕ) (other : ℕ) → other ≢ page → page_at (add_page_of c region page rights bytes).after region other ≡ page_at c region other
   pub begun : (c : Content) (region page : ℕ) → page_at (begin_of c region) region page ≡ None
+
+-- A write stores its number, also in a page that may not be read.
+abbrev pub WrittenNumbersAreSeen : Type 0
+WrittenNumbersAreSeen = (c : Content) (region at size v : ℕ) (note : Note) → IsWhole c → IsSize size → at % size ≡ 0 → (write_of c region at size v).answer ≡ Ok note
+    → number_seen (write_of c region at size v).after region at size ≡ Some (v % 2 ^ (8 * size))

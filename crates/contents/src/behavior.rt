@@ -2,14 +2,15 @@
 ghost use Rattle.contents.specs.Whole.{CallsKeepWhole};
 ghost use Rattle.contents.specs.Splitting.{TransfersSplit, TransfersOnOnePage};
 ghost use Rattle.contents.specs.Reading.{ReadsAreSeen};
-ghost use Rattle.contents.specs.Writing.{WritesAreRead, AllElseStays};
+ghost use Rattle.contents.specs.Writing.{WrittenNumbersAreSeen, WritesAreRead, AllElseStays};
 ghost use Rattle.contents.specs.Adding.{PagesAreAdded};
 ghost use Rattle.contents.specs.Refusing.{RefusalsAreInOrder, CoversEachPage};
-ghost use Rattle.contents.specs.Touching.{TouchesAreNamed, TouchesLeaveOthers, PreparedTouchesAreNamed, PreparedTouchesAreNeeded};
-ghost use Rattle.contents.specs.Forking.{ChildrenAreCopies, ChildrenShare, ForksAreRefused, EndsFreeFrames};
+ghost use Rattle.contents.specs.Touching.{PreparedRefusalsAreNeeded, TouchesAreNamed, TouchesLeaveOthers, PreparedTouchesAreNamed, PreparedTouchesAreNeeded};
+ghost use Rattle.contents.specs.Forking.{ForksAreDone, ChildrenAreCopies, ChildrenShare, ForksAreRefused, EndsFreeFrames};
 ghost use Rattle.contents.specs.Standing.{StandingsStay};
 ghost use Rattle.contents.specs.Agreeing.{RulesAgree, StoreDecidesLooks};
 ghost use Rattle.contents.specs.Looking.{LooksAgree, NoneIsNone};
+ghost use Rattle.contents.specs.Sharing.{AccountsStay, OthersKeepTheirClass};
 
 /// Each call, under its conditions, keeps a content whole.
 pub fn calls_keep_whole()
@@ -119,4 +120,29 @@ pub fn looks_agree()
 /// A note of no touch names page 0, and a refusal where no touch was made names none.
 pub fn none_is_none()
     ensures { NoneIsNone }
+{}
+
+/// What is written is what `peek` shows, also where the page may not be read.
+pub fn written_numbers_are_seen()
+    ensures { WrittenNumbersAreSeen }
+{}
+
+/// A fork under `full` is done exactly where it is not refused.
+pub fn forks_are_done()
+    ensures { ForksAreDone }
+{}
+
+/// What neither touches, forks nor ends leaves the account.
+pub fn accounts_stay()
+    ensures { AccountsStay }
+{}
+
+/// A touch leaves homes and sharing of all other pages.
+pub fn others_keep_their_class()
+    ensures { OthersKeepTheirClass }
+{}
+
+/// A transfer is refused only where a page needs a copy.
+pub fn prepared_refusals_are_needed()
+    ensures { PreparedRefusalsAreNeeded }
 {}

@@ -9,11 +9,12 @@ mod laws;
 mod refusal;
 
 pub use behavior::{
-    all_else_stays, calls_keep_whole, children_are_copies, children_share, covers_each_page,
-    ends_free_frames, forks_are_refused, looks_agree, none_is_none, pages_are_added,
+    accounts_stay, all_else_stays, calls_keep_whole, children_are_copies, children_share,
+    covers_each_page, ends_free_frames, forks_are_done, forks_are_refused, looks_agree,
+    none_is_none, others_keep_their_class, pages_are_added, prepared_refusals_are_needed,
     prepared_touches_are_named, prepared_touches_are_needed, reads_are_seen, refusals_are_in_order,
     rules_agree, standings_stay, store_decides_looks, touches_are_named, touches_leave_others,
-    transfers_on_one_page, transfers_split, writes_are_read,
+    transfers_on_one_page, transfers_split, writes_are_read, written_numbers_are_seen,
 };
 pub use examples::{a_second_copy_finds_no_frame, the_home_decides, the_last_member_moves};
 pub use laws::{

@@ -10,3 +10,13 @@ pub mod EmptyBoards
 pub mod PicturedBoard
 pub mod Keeping
 pub mod PagesAdded
+pub mod FrameSteps
+pub mod NewFrames
+pub mod LeftFrames
+pub mod CoveredPages
+pub mod FreeFrames
+pub mod NewPages
+pub mod OwnPages
+pub mod PageWrites
+pub mod ShownPages
+pub mod BoardFrames

@@ -2,4 +2,5 @@ pub mod Known
 pub mod Boards
 pub mod Laws
 pub mod Callers
+pub mod Entered
 pub mod Examples

@@ -1,5 +1,5 @@
 // Laws of boards. Each function states one, does nothing and takes nothing.
-ghost use Rattle.stores.specs.Laws.{OneFrameForOneClass, FramesHaveClasses, BoardsStandForWholeContents, TakenAreUsed, SharersAreFew, EmptyStandsForNothing};
+ghost use Rattle.stores.specs.Laws.{OneFrameForOneClass, FramesHaveClasses, BoardsStandForWholeContents, TakenAreUsed, SharersAreFew, BoardsShowPages, EmptyStandsForNothing};
 
 /// On a board two pages have one frame exactly where their members are in one class.
 pub fn one_frame_for_one_class()
@@ -30,4 +30,9 @@ pub fn sharers_are_few()
 /// A board is empty exactly where it stands for nothing.
 pub fn empty_stands_for_nothing()
     ensures { EmptyStandsForNothing }
+{}
+
+/// What a board shows of pages: the same to each content that it stands for, moved from frames whose home is a region.
+pub fn boards_show_pages()
+    ensures { BoardsShowPages }
 {}

@@ -7,8 +7,10 @@
 
 mod board;
 mod callers;
+mod entries;
 mod examples;
 mod laws;
+mod pieces;
 mod space;
 #[cfg(test)]
 mod tests;
@@ -16,9 +18,11 @@ mod tests;
 pub use board::Board;
 pub use callers::{add_and_fork, fill_region, take_bytes};
 pub use contents::{MOST_TRANSFER, Refusal};
+pub use entries::{UNTOUCHED, add_own_page, covers, entry_for, entry_of};
 pub use examples::the_picture_stands;
 pub use laws::{
-    boards_stand_for_whole_contents, empty_stands_for_nothing, frames_have_classes,
-    one_frame_for_one_class, sharers_are_few, taken_are_used,
+    boards_show_pages, boards_stand_for_whole_contents, empty_stands_for_nothing,
+    frames_have_classes, one_frame_for_one_class, sharers_are_few, taken_are_used,
 };
+pub use pieces::{Piece, first_piece};
 pub use space::{Stores, Translation};

@@ -1,0 +1,5 @@
+use Rattle.full_space.proofs.LiveRegions.{new-stands}
+use Rattle.full_space.proofs.space.FullSpace.new.Goals as goal
+
+pub returns : goal.returns
+returns c = new-stands c.args.board _ 64 c.empty_stands_for_nothing.ensures c.requires

@@ -1,0 +1,4 @@
+pub mod Own
+pub mod Full
+pub mod Steps
+pub mod Shown
