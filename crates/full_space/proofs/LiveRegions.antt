@@ -1,9 +1,7 @@
 -- A space on an empty board, and regions whose stores begin and end.
-use Rattle.std.proofs.Common.{◌≡◌, ◌≢◌, ◌∙◌, ◌⊎◌, inl, inr, ℕ, ◌<◌, ◌≤◌, nat_eq, Bool, true, false, cond, Option, Some, None, List, length, replicate, refl, ap, sym}
+use Rattle.std.proofs.Common.{◌≡◌, ◌≢◌, ◌∙◌, ◌⊎◌, inl, inr, ℕ, ◌<◌, nat_eq, Bool, true, false, cond, Option, Some, None, List, length, replicate, refl, ap, sym}
 use Rattle.std.specs.Prelude.{is_some, slice_index_or, slice_set}
-use Rattle.std.proofs.lemmas.Bool.{cases_lt}
 use Rattle.std.proofs.lemmas.Bool.Decides.{eqb_tells}
-use Rattle.std.proofs.lemmas.List.{get_or-replicate, get_or_past, get_or-set_same, get_or-set_other, length-replicate}
 use Rattle.machine_types.specs.declared.config.Rule.TheVariants.{Full}
 use Rattle.machine_types.specs.Stores.{Store, empty_store, changed}
 use Rattle.contents.specs.Content.{Content, nothing, page_at, with_store}
@@ -17,33 +15,17 @@ use Rattle.contents.proofs.WholeStores.{page-changed}
 use Rattle.stores.specs.declared.board.Board.{Board}
 use Rattle.stores.specs.Boards.{IsEmpty, Stands}
 use Rattle.stores.specs.Laws.{EmptyStandsForNothing}
+use Rattle.stores.proofs.LiveStores.{none-live, live-changed}
 use Rattle.full_space.specs.declared.space.FullSpace.{FullSpace}
 use Rattle.full_space.specs.Own.{AreOwn}
 use Rattle.full_space.specs.Full.{FullStands}
 use Rattle.full_space.proofs.AlikeContents.{stands-alike}
 
--- no region is live
-none-live : (count region : ℕ) → false ≡ slice_index_or (replicate count false) region false
-none-live count region = by (cases_lt region count)
-  where
-    by : (region < count) ⊎ (count ≤ region) → false ≡ slice_index_or (replicate count false) region false
-    by (inl below) = sym (get_or-replicate count region false false below)
-    by (inr past) = sym (get_or_past (replicate count false) region false (rw length-replicate past))
+-- a space on an empty board in which no region is live stands for nothing
+pub new-stands : (board : Board) (live : List Bool) (own : AreOwn board) (regions : ℕ) → live ≡ replicate regions false → EmptyStandsForNothing → IsEmpty board → FullStands (record { board = board; live = live; own = own }) (nothing Full board.pool.size)
+new-stands board live own regions none law empty = record { rule = refl; board = (law board Full).0 empty; stores = rw none (none-live regions) }
 
--- so the space stands for nothing
-pub new-stands : (board : Board) (own : AreOwn board) (regions : ℕ) → EmptyStandsForNothing → IsEmpty board → FullStands (record { board = board; live = replicate regions false; own = own }) (nothing Full board.pool.size)
-new-stands board own regions law empty = record { rule = refl; board = (law board Full).0 empty; stores = none-live regions }
-
--- The live regions are those with a store still, where one gets another or none.
-live-changed : (live : List Bool) (stores : ℕ → Option Store) (region : ℕ) (o : Option Store) → ((r : ℕ) → is_some (stores r) ≡ slice_index_or live r false) → region < length live
-    → (r : ℕ) → is_some (changed stores region o r) ≡ slice_index_or (slice_set live region (is_some o)) r false
-live-changed live stores region o same below r = by (eqb_tells r region)
-  where
-    by : ((nat_eq r region ≡ true) × (r ≡ region)) ⊎ ((nat_eq r region ≡ false) × (r ≢ region)) → is_some (cond (nat_eq r region) o (stores r)) ≡ slice_index_or (slice_set live region (is_some o)) r false
-    by (inl (test, here)) = rw (test, here) (sym (get_or-set_same live region (is_some o) false below))
-    by (inr (test, other)) = rw test (same r ∙ sym (get_or-set_other live region r (is_some o) false other))
-
--- So is the space after a call that gives a region another store, or takes it.
+-- the space after a call that gives a region another store, or takes it
 pub space-stored : (old new : FullSpace) (c after : Content) (region : ℕ) (o : Option Store) → FullStands old c → Stands new.board after → HasSameSetting c after → after.stores ≡ changed c.stores region o
     → new.live ≡ slice_set old.live region (is_some o) → region < length old.live → FullStands new after
 space-stored old new c after region o stands board setting stores live below = record {

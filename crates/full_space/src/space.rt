@@ -8,11 +8,11 @@ ghost use Rattle.full_space.specs.Own.{AreOwn};
 use crate::bytes::{bytes_in, bytes_out};
 use crate::endings::drop_pages;
 use crate::forks::{copy_pages, page_count};
-use cap_format::{Cap, GRANULE_BYTES, MOST_REGIONS, PAGE_BYTES, REGION_BYTES};
+use cap_format::{Cap, GRANULE_BYTES, PAGE_BYTES, REGION_BYTES};
 use machine_types::{Access, NoFrame, Note};
 use stores::{
-    Board, Refusal, Stores, Translation, UNTOUCHED, add_own_page, covers, empty_stands_for_nothing,
-    entry_for, entry_of,
+    Board, LiveRegions, Refusal, Stores, Translation, UNTOUCHED, add_own_page, covers,
+    empty_stands_for_nothing, entry_for, entry_of,
 };
 
 /// A space of stores in which each page has a frame of its own. It serves the rule
@@ -20,8 +20,7 @@ use stores::{
 #[derive(Drop)]
 pub struct FullSpace {
     board: Board,
-    // Which regions have a store.
-    live: [bool; MOST_REGIONS as usize],
+    live: LiveRegions,
     ghost own: { AreOwn board },
 }
 
@@ -37,7 +36,7 @@ impl FullSpace {
         empty_stands_for_nothing();
         FullSpace {
             board,
-            live: [false; MOST_REGIONS as usize],
+            live: LiveRegions::new(),
         }
     }
 
@@ -65,12 +64,12 @@ impl Stores for FullSpace {
     ghost is_shown = { λ space c stands. translations-show space.board c stands.board (λ region. translation_of) (own-shown space.board space.own) };
 
     fn begin(&mut self, region: u32) {
-        self.live[region as usize] = true;
+        self.live.begin(region);
     }
 
     fn end(&mut self, region: u32) {
         drop_pages(&mut self.board, region);
-        self.live[region as usize] = false;
+        self.live.end(region);
     }
 
     fn add_page(
@@ -145,7 +144,7 @@ impl Stores for FullSpace {
             return Err(NoFrame { before: UNTOUCHED });
         }
         copy_pages(&mut self.board, from, to);
-        self.live[to as usize] = true;
+        self.live.begin(to);
         Ok(())
     }
 

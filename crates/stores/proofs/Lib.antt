@@ -20,3 +20,4 @@ pub mod OwnPages
 pub mod PageWrites
 pub mod ShownPages
 pub mod BoardFrames
+pub mod LiveStores

@@ -10,6 +10,7 @@ mod callers;
 mod entries;
 mod examples;
 mod laws;
+mod live;
 mod pieces;
 mod space;
 #[cfg(test)]
@@ -24,5 +25,6 @@ pub use laws::{
     boards_show_pages, boards_stand_for_whole_contents, empty_stands_for_nothing,
     frames_have_classes, one_frame_for_one_class, sharers_are_few, taken_are_used,
 };
+pub use live::LiveRegions;
 pub use pieces::{Piece, first_piece};
 pub use space::{Stores, Translation};

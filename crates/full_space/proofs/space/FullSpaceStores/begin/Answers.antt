@@ -1,4 +1,4 @@
-use Rattle.std.proofs.Common.{refl, rules}
+use Rattle.std.proofs.Common.{refl}
 use Rattle.contents.specs.Regions.{begin_of}
 use Rattle.contents.specs.Conditions.{HasStore, HasNoStore, HasEmptyStore}
 use Rattle.contents.specs.Laws.{OthersStay}
@@ -12,7 +12,7 @@ use Rattle.full_space.proofs.LiveRegions.{begin-stands, begin-empty}
 use Rattle.full_space.proofs.space.FullSpaceStores.begin.Goals as goal
 
 pub returns-clause-after : goal.returns-clause-after
-returns-clause-after c content stands = begin-stands c.args.self.now _ content c.args.region stands (live-none c.args.self.now c.args.region c.requires.none) refl refl (search rules)
+returns-clause-after c content stands = begin-stands c.args.self.now _ content c.args.region stands (live-none c.args.self.now c.args.region c.requires.none) refl c.begin.ensures.is c.begin.ensures.within
 
 pub returns-clause-begun : goal.returns-clause-begun
 returns-clause-begun c =

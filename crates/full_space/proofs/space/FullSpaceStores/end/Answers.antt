@@ -1,4 +1,4 @@
-use Rattle.std.proofs.Common.{None, refl, rules}
+use Rattle.std.proofs.Common.{None}
 use Rattle.contents.specs.Regions.{end_of}
 use Rattle.contents.specs.Conditions.{HasStore, HasNoStore}
 use Rattle.contents.specs.Laws.{OthersStay, HasSameSetting}
@@ -20,7 +20,7 @@ drop_pages-requires-clause-some c =
 pub returns-clause-after : goal.returns-clause-after
 returns-clause-after c content stands =
     space-stored c.args.self.now _ content (end_of content c.args.region) c.args.region None stands (c.drop_pages.ensures.each content stands.board)
-    (end-holds HasSameSetting c.args.region (setting-steps c.args.region) content) (end-stored content c.args.region) refl (search rules)
+    (end-holds HasSameSetting c.args.region (setting-steps c.args.region) content) (end-stored content c.args.region) c.end.ensures.is c.end.ensures.within
 
 pub returns-clause-ended : goal.returns-clause-ended
 returns-clause-ended c =

@@ -1,4 +1,4 @@
-use Rattle.std.proofs.Common.{◌≡◌, ◌∙◌, true, refl, sym, ap, rules, slice_set}
+use Rattle.std.proofs.Common.{◌≡◌, ◌∙◌, true, refl, sym, ap, slice_set}
 use Rattle.std.specs.Prelude.{is_some}
 use Rattle.std.specs.Option.{option_map}
 use Rattle.machine_types.specs.Stores.{moved_store}
@@ -45,7 +45,7 @@ returns-clause-after c content stands =
     let child : is_some (option_map (moved_store c.args.from c.args.to) (content.stores c.args.from)) ≡ true = is_some-option_map (moved_store c.args.from c.args.to) (content.stores c.args.from) ∙ parent in
     space-stored c.args.self.now _ content (fork_of content c.args.from c.args.to).after c.args.to (option_map (moved_store c.args.from c.args.to) (content.stores c.args.from)) stands outcome.after
     (fork-holds HasSameSetting c.args.to (setting-steps c.args.to) content c.args.from) (forked-stores content c.args.from c.args.to (sym outcome.answer))
-    (ap (slice_set c.args.self.now.live c.args.to) (sym child)) (search rules)
+    (c.begin.ensures.is ∙ ap (slice_set c.args.self.now.live c.args.to) (sym child)) c.begin.ensures.within
 
 pub returns-clause-begun : goal.returns-clause-begun
 returns-clause-begun c _ =
