@@ -25,9 +25,9 @@ use Rattle.stores.proofs.BoardPages.{HasPageOf, page-found, page-absent, used_co
 use Rattle.stores.proofs.OwnPages.{entry-absent}
 use Rattle.stores.proofs.PageWrites.{home-granules}
 use Rattle.stores.proofs.NewPages.{HasNewFrame, stands-new}
+use Rattle.stores.proofs.AlikeContents.{stands-alike}
 use Rattle.full_space.specs.Own.{AreOwn}
 use Rattle.full_space.specs.Steps.{entries_below, numbers_below, forked_below}
-use Rattle.full_space.proofs.AlikeContents.{stands-alike}
 use Rattle.full_space.proofs.CountedPages.{entries-fewer, pages-counted, all-counted}
 use Rattle.full_space.proofs.ForkedPages.{forked-other, forked-account, forked-frames, forked-past, none-forked, page-forked, none-to-fork, fork-answer, all-forked}
 

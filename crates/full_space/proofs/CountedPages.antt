@@ -1,15 +1,14 @@
 -- How many pages a region has below a number: by its entries, and by the numbers of its pages.
-use Rattle.std.proofs.Common.{◌≡◌, ◌∙◌, ℕ, zero, suc, ◌+◌, ◌-◌, ◌≤◌, ◌<◌, Bool, true, false, cond, Option, Some, None, is_some, List, [], ◌∷◌, ◌++◌, length, refl, ap, sym, arith, add-one, add-zero}
+use Rattle.std.proofs.Common.{◌≡◌, ◌∙◌, ℕ, zero, suc, ◌+◌, ◌-◌, ◌≤◌, ◌<◌, Bool, true, false, cond, Option, Some, None, is_some, [], ◌∷◌, ◌++◌, length, refl, ap, sym, arith, add-one, add-zero}
 use Rattle.std.proofs.lemmas.List.{length-append}
-use Rattle.cap_format.specs.declared.cap.Cap.{Cap}
 use Rattle.cap_format.specs.Numbers.{region_pages}
-use Rattle.machine_types.specs.Stores.{Page, Store, page_numbers}
-use Rattle.frame_owners.specs.Homes.{Owner}
+use Rattle.machine_types.specs.Stores.{Store, page_numbers}
 use Rattle.page_table.specs.declared.table.Entry.{Entry}
-use Rattle.contents.specs.Content.{Content, page_in, page_at}
+use Rattle.contents.specs.Content.{Content, page_in}
 use Rattle.contents.specs.Regions.{numbers_in}
 use Rattle.stores.specs.declared.board.Board.{Board}
-use Rattle.stores.specs.Boards.{HasSamePage, Stands}
+use Rattle.stores.specs.Boards.{Stands}
+use Rattle.stores.proofs.BoardPages.{entry-there}
 use Rattle.full_space.specs.Steps.{entries_below, numbers_below}
 
 -- none at first
@@ -81,18 +80,11 @@ numbers-counted entries store same (suc n) =
         let none = rw (same n, absent) at (entries-more entries n) in
         rw (numbers_below-skip store n absent) (omega arith)
 
--- the entry and the page are there together
-both-there : (memory : List (List Cap)) (owners : List Owner) (region : ℕ) (o : Option Entry) (p : Option Page) → HasSamePage memory owners region o p → is_some o ≡ is_some p
-both-there memory owners region None None has = refl
-both-there memory owners region None (Some p) has = absurd has
-both-there memory owners region (Some e) None has = absurd has
-both-there memory owners region (Some e) (Some p) has = refl
-
 -- a board has as many entries as a content that it stands for has pages
 pub pages-counted : (board : Board) (c : Content) (region n : ℕ) → Stands board c → length (numbers_below (c.stores region) n) ≡ entries_below (board.table.entries region) n
 pages-counted board c region n stands =
     numbers-counted (board.table.entries region) (c.stores region)
-    (λ page. both-there board.memory board.owners region (board.table.entries region page) (page_at c region page) (stands.pages region page)) n
+    (λ page. entry-there board c region page stands) n
 
 pub all-counted : (board : Board) (c : Content) (region : ℕ) → Stands board c → entries_below (board.table.entries region) region_pages ≡ length (numbers_in (c.stores region))
 all-counted board c region stands = sym (ap length (numbers_below-all (c.stores region)) ∙ pages-counted board c region region_pages stands)

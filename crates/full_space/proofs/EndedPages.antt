@@ -15,10 +15,10 @@ use Rattle.contents.specs.Regions.{end_of}
 use Rattle.contents.proofs.OtherStores.{changed-elsewhere, changed-there}
 use Rattle.stores.specs.declared.board.Board.{Board}
 use Rattle.stores.specs.Boards.{frame_in, frame_of, Stands}
+use Rattle.stores.proofs.AlikeContents.{StandAlike, stands-alike}
 use Rattle.stores.proofs.BoardPages.{frame-within, page-absent}
 use Rattle.stores.proofs.FrameSteps.{equal-or-not, page-or-other}
 use Rattle.full_space.specs.Steps.{pages_from, account_below, ended_below}
-use Rattle.full_space.proofs.AlikeContents.{AreAlike, stands-alike}
 use Rattle.full_space.proofs.EndedAccounts.{account_below-more, account_below-all, account_below-none, account-stays}
 use Rattle.full_space.proofs.LostFrames.{HasLostFrame, HasLostPage, stands-lost}
 
@@ -81,7 +81,7 @@ stands-begun board c region stands = stands-alike board c (ended_below c region 
     pages r page (inl same) = rw same (ended-here c region 0 page ∙ rw (none page) refl)
     pages r page (inr other) = ended-other c region 0 r page other
 
-    alike : AreAlike c (ended_below c region 0)
+    alike : StandAlike c (ended_below c region 0)
     alike = record {
       pages = λ r page. pages r page (equal-or-not r region);
       account = ended-account c region 0 ∙ account_below-none (frame_of board.table.entries) (owner board.owners) region stands.frames c.account stands.kept.classes (shared board c stands);

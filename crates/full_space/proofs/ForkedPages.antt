@@ -12,10 +12,10 @@ use Rattle.machine_types.specs.Accounts.{Class, class_for, account_at_fork}
 use Rattle.contents.specs.Content.{Content, page_in, page_at, free_frames}
 use Rattle.contents.specs.Regions.{fork_of, fork_with, numbers_in}
 use Rattle.contents.proofs.OtherStores.{changed-elsewhere, changed-there}
+use Rattle.stores.proofs.AlikeContents.{StandAlike}
 use Rattle.stores.proofs.FrameSteps.{equal-or-not, page-or-other}
 use Rattle.stores.proofs.NewPages.{HasNewPage}
 use Rattle.full_space.specs.Steps.{pages_until, numbers_below, forked_below}
-use Rattle.full_space.proofs.AlikeContents.{AreAlike}
 use Rattle.full_space.proofs.CountedPages.{numbers_below-none, numbers_below-more, numbers_below-skip, numbers_below-all}
 
 -- The content in which the child has the pages below a number.
@@ -51,7 +51,7 @@ module _ (c : Content) (from to n : ℕ) where
   forked-past page past = let test : nat_lt page n ≡ false = le-ltb page n past in forked-here page ∙ rw test refl
 
 -- At first the child has no page.
-pub none-forked : (c : Content) (from to : ℕ) → ((page : ℕ) → page_at c to page ≡ None) → AreAlike c (forked_below c from to 0)
+pub none-forked : (c : Content) (from to : ℕ) → ((page : ℕ) → page_at c to page ≡ None) → StandAlike c (forked_below c from to 0)
 none-forked c from to empty = record {
   pages = λ r page. pages r page (equal-or-not r to);
   account = forked-account c from to 0 ∙ ap (λ (numbers : List ℕ). c.account ++ map (class_for to) numbers) (numbers_below-none (c.stores from)) ∙ append-nil c.account;
@@ -94,7 +94,7 @@ module _ (c : Content) (from to n : ℕ) where
   }
 
   -- Or there is none, and nothing changes.
-  pub none-to-fork : page_at c from n ≡ None → AreAlike (forked_below c from to n) (forked_below c from to (n + 1))
+  pub none-to-fork : page_at c from n ≡ None → StandAlike (forked_below c from to n) (forked_below c from to (n + 1))
   none-to-fork none = record {
     pages = λ r page. pages r page (page-or-other r page to n);
     account =
@@ -128,7 +128,7 @@ fork-answer c from to full room = sym (ap (λ outcome. outcome.answer) (fork-mad
 
 -- and the child has all pages of the parent, where that has none past the last
 pub all-forked : (c : Content) (from to : ℕ) → c.rule ≡ Full → length (numbers_in (c.stores from)) ≤ free_frames c → ((page : ℕ) → region_pages ≤ page → page_at c from page ≡ None)
-    → AreAlike (forked_below c from to region_pages) (fork_of c from to).after
+    → StandAlike (forked_below c from to region_pages) (fork_of c from to).after
 all-forked c from to full room past = rw (fork-made c from to full room) record {
   pages = λ r page. pages r page (equal-or-not r to);
   account = sym (forked-account c from to region_pages ∙ ap (λ (numbers : List ℕ). c.account ++ map (class_for to) numbers) (sym (numbers_below-all (c.stores from))));

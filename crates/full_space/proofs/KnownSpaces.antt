@@ -10,11 +10,11 @@ use Rattle.contents.specs.Conditions.{HasStore, HasNoStore, LacksPage, IsOwn}
 use Rattle.contents.proofs.ListCounts.{count-found}
 use Rattle.stores.specs.Known.{StandsFor}
 use Rattle.stores.specs.Boards.{Stands}
+use Rattle.stores.proofs.BoardPages.{entry-there}
 use Rattle.stores.proofs.WholeContents.{stands-whole}
 use Rattle.stores.proofs.Keeping.{stands-weaker}
 use Rattle.full_space.specs.declared.space.FullSpace.{FullSpace}
 use Rattle.full_space.specs.Full.{FullStands}
-use Rattle.full_space.proofs.OwnPages.{entry-there}
 use Rattle.full_space.proofs.OwnFrames.{entry-memory}
 
 -- its board stands for the content
@@ -42,7 +42,7 @@ test-counted false count same least = absurd (omega arith)
 pub own-there : (space : FullSpace) (region page : ℕ) → ∥ StandsFor FullStands space (IsOwn region page) ∥₁ → is_some (space.board.table.entries region page) ≡ true
 own-there space region page known = ∥∥₁_elim known (hlevel Bool-set) (λ (known : StandsFor FullStands space (IsOwn region page)).
     let whole = stands-whole space.board known.content known.stands.board in
-    entry-there space.board known.content space.own known.stands.board region page
+    entry-there space.board known.content region page known.stands.board
     ∙ test-counted (is_some (page_at known.content region page)) _ (whole.pages region page) (count-found (has_member region page) known.content.account known.holds.class known.holds.there))
 
 -- a region has a store in each content, where it has one in some

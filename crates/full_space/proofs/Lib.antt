@@ -1,5 +1,4 @@
 pub mod OwnPages
-pub mod AlikeContents
 pub mod LostFrames
 pub mod OwnFrames
 pub mod Untouched
@@ -8,6 +7,7 @@ pub mod KnownSpaces
 pub mod ChangedPages
 pub mod Pieces
 pub mod Looking
+pub mod ShownFrames
 pub mod LiveRegions
 pub mod AddedPages
 pub mod EndedAccounts

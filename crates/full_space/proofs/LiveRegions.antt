@@ -16,10 +16,10 @@ use Rattle.stores.specs.declared.board.Board.{Board}
 use Rattle.stores.specs.Boards.{IsEmpty, Stands}
 use Rattle.stores.specs.Laws.{EmptyStandsForNothing}
 use Rattle.stores.proofs.LiveStores.{none-live, live-changed}
+use Rattle.stores.proofs.AlikeContents.{stands-alike}
 use Rattle.full_space.specs.declared.space.FullSpace.{FullSpace}
 use Rattle.full_space.specs.Own.{AreOwn}
 use Rattle.full_space.specs.Full.{FullStands}
-use Rattle.full_space.proofs.AlikeContents.{stands-alike}
 
 -- a space on an empty board in which no region is live stands for nothing
 pub new-stands : (board : Board) (live : List Bool) (own : AreOwn board) (regions : ℕ) → live ≡ replicate regions false → EmptyStandsForNothing → IsEmpty board → FullStands (record { board = board; live = live; own = own }) (nothing Full board.pool.size)

@@ -1,6 +1,5 @@
 -- The pages of a content for which a board stands where each page has a frame of its own.
-use Rattle.std.proofs.Common.{◌≡◌, ◌∙◌, ℕ, Option, Some, None, List, refl, sym, ap}
-use Rattle.std.specs.Prelude.{is_some}
+use Rattle.std.proofs.Common.{◌≡◌, ◌∙◌, ℕ, Option, Some, None, List, refl, ap}
 use Rattle.std.specs.Option.{option_map}
 use Rattle.cap_format.specs.declared.cap.Cap.{Cap}
 use Rattle.machine_types.specs.Stores.{Page}
@@ -8,20 +7,15 @@ use Rattle.tagged_memory.specs.Frames.{frame}
 use Rattle.frame_owners.specs.Homes.{Owner, owner}
 use Rattle.page_table.specs.declared.table.Entry.{Entry}
 use Rattle.contents.specs.Content.{Content, page_at}
-use Rattle.contents.proofs.Options.{is_some-option_map}
 use Rattle.stores.specs.declared.board.Board.{Board}
 use Rattle.stores.specs.Boards.{Stands}
-use Rattle.stores.proofs.BoardPages.{page-found, page-absent}
+use Rattle.stores.proofs.BoardPages.{page-found, page-absent, same-page}
 use Rattle.stores.proofs.PageWrites.{home-granules}
 use Rattle.full_space.specs.Own.{AreOwn}
 
 -- the page of an entry
 abbrev pub page_of_entry : List (List Cap) → Entry → Page
 page_of_entry memory e = record { rights = e.rights; granules = frame memory e.frame.0 }
-
--- pages with the same rights and granules are the same
-same-page : (p q : Page) → p.rights ≡ q.rights → p.granules ≡ q.granules → p ≡ q
-same-page p q rights granules i = record { rights = rights i; granules = granules i }
 
 -- a page is that of its entry
 pub page-is : (board : Board) (c : Content) → AreOwn board → Stands board c → (region page : ℕ) → page_at c region page ≡ option_map (page_of_entry board.memory) (board.table.entries region page)
@@ -33,7 +27,3 @@ page-is board c own stands region page = by (board.table.entries region page) re
         let found = page-found board c region page e stands here in
         let home : (owner board.owners e.frame.0).home ≡ region = ap (λ (o : Owner). o.home) (own region page e here) in
         found.there ∙ ap Some (same-page found.p (page_of_entry board.memory e) found.has.rights (home-granules found.has home))
-
--- an entry is there exactly where its page is
-pub entry-there : (board : Board) (c : Content) → AreOwn board → Stands board c → (region page : ℕ) → is_some (board.table.entries region page) ≡ is_some (page_at c region page)
-entry-there board c own stands region page = sym (ap is_some (page-is board c own stands region page) ∙ is_some-option_map (page_of_entry board.memory) (board.table.entries region page))

@@ -22,9 +22,10 @@ use Rattle.contents.proofs.PageTransfers.{read_bytes-page, write_bytes-page}
 use Rattle.stores.specs.declared.board.Board.{Board}
 use Rattle.stores.specs.Known.{StandsFor}
 use Rattle.stores.specs.Boards.{Stands}
+use Rattle.stores.proofs.BoardPages.{entry-there}
 use Rattle.stores.proofs.PageWrites.{bytes-keep}
 use Rattle.full_space.specs.Own.{AreOwn}
-use Rattle.full_space.proofs.OwnPages.{page_of_entry, page-is, entry-there}
+use Rattle.full_space.proofs.OwnPages.{page_of_entry, page-is}
 use Rattle.full_space.proofs.ChangedPages.{board-changed}
 
 -- a page that may be accessed is there
@@ -33,10 +34,10 @@ access-some access None may = absurd (cc)
 access-some access (Some p) may = refl
 
 -- the page of each byte that is covered has an entry
-pub covered-there : (board : Board) (region at n : ℕ) (access : Access) → AreOwn board → ∥ StandsFor Stands board (Covers region at n access) ∥₁
+pub covered-there : (board : Board) (region at n : ℕ) (access : Access) → ∥ StandsFor Stands board (Covers region at n access) ∥₁
     → (k : ℕ) → k < n → is_some (board.table.entries region (page_of_place (at + k))) ≡ true
-covered-there board region at n access own known k below = ∥∥₁_elim known (hlevel Bool-set) (λ (known : StandsFor Stands board (Covers region at n access)).
-    entry-there board known.content own known.stands region (page_of_place (at + k)) ∙ access-some access (page_at known.content region (page_of_place (at + k))) (known.holds k below))
+covered-there board region at n access known k below = ∥∥₁_elim known (hlevel Bool-set) (λ (known : StandsFor Stands board (Covers region at n access)).
+    entry-there board known.content region (page_of_place (at + k)) known.stands ∙ access-some access (page_at known.content region (page_of_place (at + k))) (known.holds k below))
 
 -- A piece of the bytes from a place on, which lies on the page of an entry.
 module _ (board : Board) (region at done count : ℕ) (e : Entry) (own : AreOwn board) (there : board.table.entries region (page_of_place (at + done)) ≡ Some e)

@@ -5,8 +5,10 @@
 mod bytes;
 mod endings;
 mod forks;
+mod laws;
 mod space;
 #[cfg(test)]
 mod tests;
 
+pub use laws::full_spaces_show_pages;
 pub use space::FullSpace;

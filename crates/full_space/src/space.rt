@@ -1,6 +1,5 @@
 // The space.
 ghost use Rattle.std.specs.Prelude.{◌≡◌, ◌≤◌, ◌<◌, ◌+◌, ◌%◌, ◌/◌, ℕ, Some, None};
-ghost use Rattle.std.specs.Option.{option_map};
 ghost use Rattle.contents.specs.Content.{Content, nothing};
 ghost use Rattle.stores.specs.Boards.{IsEmpty, Stands};
 ghost use Rattle.full_space.specs.Own.{AreOwn};
@@ -49,7 +48,8 @@ impl FullSpace {
 }
 
 impl Stores for FullSpace {
-    ghost use Rattle.full_space.specs.Full.{FullStands};
+    ghost use Rattle.std.proofs.Common.{◌∙◌, sym};
+    ghost use Rattle.full_space.specs.Full.{FullStands, full_translations};
     ghost use Rattle.full_space.specs.Steps.{translation_of};
     ghost use Rattle.stores.proofs.WholeContents.{stands-whole};
     ghost use Rattle.stores.proofs.ShownPages.{translations-show};
@@ -57,11 +57,13 @@ impl Stores for FullSpace {
 
     ghost stands_for = { FullStands };
 
-    ghost translation_at = { λ space region page. option_map translation_of (space.board.table.entries region page) };
+    ghost translation_at = { full_translations };
 
     ghost is_whole = { λ space c stands. stands-whole space.board c stands.board };
 
     ghost is_shown = { λ space c stands. translations-show space.board c stands.board (λ region. translation_of) (own-shown space.board space.own) };
+
+    ghost are_same = { λ space c d first second region. second.stores region ∙ sym (first.stores region) };
 
     fn begin(&mut self, region: u32) {
         self.live.begin(region);

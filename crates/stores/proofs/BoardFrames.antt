@@ -16,28 +16,21 @@ use Rattle.contents.specs.Content.{Content, page_at}
 use Rattle.stores.specs.declared.board.Board.{Board}
 use Rattle.stores.specs.Boards.{frame_in, frame_of, AreFramesOf, HasPage, HasSamePage, Stands}
 use Rattle.stores.specs.Laws.{IsEntered}
-use Rattle.stores.proofs.BoardPages.{entry-within, page-found}
+use Rattle.stores.proofs.BoardPages.{entry-within, page-found, same-page}
 use Rattle.stores.proofs.SharersCounted.{members-have-frame}
 
--- a page of its parts
-abbrev made : ℕ → List Cap → Page
-made rights granules = record { rights = rights; granules = granules }
-
 -- an entry has one page
-same-page : (memory : List (List Cap)) (owners : List Owner) (region : ℕ) (e : Option Entry) (p q : Option Page) → HasSamePage memory owners region e p → HasSamePage memory owners region e q → p ≡ q
-same-page memory owners region None None None s t = refl
-same-page memory owners region None None (Some q) s t = absurd t
-same-page memory owners region None (Some p) q s t = absurd s
-same-page memory owners region (Some e) None q s t = absurd s
-same-page memory owners region (Some e) (Some p) None s t = absurd t
-same-page memory owners region (Some e) (Some p) (Some q) s t = ap Some (same p q (s.rights ∙ sym t.rights) (s.granules ∙ sym t.granules))
-  where
-    same : (p q : Page) → p.rights ≡ q.rights → p.granules ≡ q.granules → p ≡ q
-    same p q r g = ap (λ (x : ℕ). made x p.granules) r ∙ ap (λ (x : List Cap). made q.rights x) g
+one-page : (memory : List (List Cap)) (owners : List Owner) (region : ℕ) (e : Option Entry) (p q : Option Page) → HasSamePage memory owners region e p → HasSamePage memory owners region e q → p ≡ q
+one-page memory owners region None None None s t = refl
+one-page memory owners region None None (Some q) s t = absurd t
+one-page memory owners region None (Some p) q s t = absurd s
+one-page memory owners region (Some e) None q s t = absurd s
+one-page memory owners region (Some e) (Some p) None s t = absurd t
+one-page memory owners region (Some e) (Some p) (Some q) s t = ap Some (same-page p q (s.rights ∙ sym t.rights) (s.granules ∙ sym t.granules))
 
 pub shown-pages : (board : Board) (c d : Content) (region page : ℕ) → Stands board c → Stands board d → page_at c region page ≡ page_at d region page
 shown-pages board c d region page s t =
-    same-page board.memory board.owners region (board.table.entries region page) (page_at c region page) (page_at d region page) (s.pages region page) (t.pages region page)
+    one-page board.memory board.owners region (board.table.entries region page) (page_at c region page) (page_at d region page) (s.pages region page) (t.pages region page)
 
 -- the entry of a page with a frame
 frame-entry : (o : Option Entry) (f : ℕ) → frame_in o ≡ Some f → (e : Entry) × (o ≡ Some e) × (e.frame.0 ≡ f)

@@ -1,5 +1,5 @@
 -- The entries of a board, and the pages of a content that it stands for.
-use Rattle.std.proofs.Common.{◌≡◌, ◌∙◌, ◌⊎◌, inl, inr, ℕ, ◌<◌, ◌≤◌, nat_lt, nat_eq, true, Option, Some, None, List, length, refl, ap, sym, subst, arith}
+use Rattle.std.proofs.Common.{◌≡◌, ◌∙◌, ◌⊎◌, inl, inr, ℕ, ◌<◌, ◌≤◌, nat_lt, nat_eq, true, Option, Some, None, is_some, List, length, refl, ap, sym, subst, arith}
 use Rattle.std.proofs.lemmas.Bool.{cases_lt}
 use Rattle.std.proofs.lemmas.Bool.Decides.{nat_tests}
 use Rattle.cap_format.specs.Numbers.{most_regions, region_pages, page_granules}
@@ -69,6 +69,20 @@ none-page memory owners region (Some p) has = absurd has
 pub page-absent : (board : Board) (c : Content) (region page : ℕ) → Stands board c → board.table.entries region page ≡ None → page_at c region page ≡ None
 page-absent board c region page stands none =
     none-page board.memory board.owners region (page_at c region page) (subst (λ (o : Option Entry). HasSamePage board.memory board.owners region o (page_at c region page)) none (stands.pages region page))
+
+-- an entry is there exactly where its page is
+both-there : (memory : List (List Cap)) (owners : List Owner) (region : ℕ) (o : Option Entry) (p : Option Page) → HasSamePage memory owners region o p → is_some o ≡ is_some p
+both-there memory owners region None None has = refl
+both-there memory owners region None (Some p) has = absurd has
+both-there memory owners region (Some e) None has = absurd has
+both-there memory owners region (Some e) (Some p) has = refl
+
+pub entry-there : (board : Board) (c : Content) (region page : ℕ) → Stands board c → is_some (board.table.entries region page) ≡ is_some (page_at c region page)
+entry-there board c region page stands = both-there board.memory board.owners region (board.table.entries region page) (page_at c region page) (stands.pages region page)
+
+-- pages with the same rights and granules are the same
+pub same-page : (p q : Page) → p.rights ≡ q.rights → p.granules ≡ q.granules → p ≡ q
+same-page p q rights granules i = record { rights = rights i; granules = granules i }
 
 -- What is known of the frame of an entry.
 pub record IsEntryOf (board : Board) (e : Entry) : Type 0 where

@@ -25,14 +25,6 @@ pub placed-elsewhere : {A : Type 0} (f : ℕ → ℕ → A) (region page : ℕ) 
 placed-elsewhere f region page value r p (inl other) = let test : (nat_eq r region && nat_eq p page) ≡ false = grind (arith, nat_tests) in rw test refl
 placed-elsewhere f region page value r p (inr other) = let test : (nat_eq r region && nat_eq p page) ≡ false = grind (arith, nat_tests) in rw test refl
 
--- the last of two values stands
-pub placed-twice : {A : Type 0} (f : ℕ → ℕ → A) (region page : ℕ) (first second : A) → placed (placed f region page first) region page second ≡ placed f region page second
-placed-twice {A} f region page first second = fun_ext (λ r. fun_ext (λ p. by r p (nat_eq r region && nat_eq p page)))
-  where
-    by : (r p : ℕ) (b : Bool) → cond b second (cond b first (f r p)) ≡ cond b second (f r p)
-    by r p true = refl
-    by r p false = refl
-
 -- a value that is there already changes nothing
 pub placed-same : {A : Type 0} (f : ℕ → ℕ → A) (region page : ℕ) (value : A) → f region page ≡ value → placed f region page value ≡ f
 placed-same {A} f region page value there = fun_ext (λ r. fun_ext (λ p. by r p (eqb_tells r region) (eqb_tells p page)))

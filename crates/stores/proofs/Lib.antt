@@ -21,3 +21,4 @@ pub mod PageWrites
 pub mod ShownPages
 pub mod BoardFrames
 pub mod LiveStores
+pub mod AlikeContents

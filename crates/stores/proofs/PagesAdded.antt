@@ -18,7 +18,7 @@ use Rattle.contents.specs.Whole.{IsWhole}
 use Rattle.contents.proofs.KeptRegions.{add_page-regions}
 use Rattle.contents.proofs.OtherStores.{changed-there}
 use Rattle.stores.specs.Known.{StandsFor}
-use Rattle.stores.specs.Callers.{then_add, add_pages_of, seed_pages_of}
+use Rattle.stores.specs.Callers.{add_pages_of, seed_pages_of}
 use Rattle.stores.proofs.Keeping.{stands-after, stands-weaker}
 
 -- The region has a store. Its pages below a number are its own, and those from there on are absent.
@@ -119,19 +119,6 @@ stays-refused c region rights count (suc more) refused stops most = by (eq-or-lt
         let before = rest (omega arith) in
         then-refused c region rights more refused (ap (λ (o : CallOutcome (Result (Unit {0}) NoFrame)). o.answer) before)
         ∙ ap (λ (o : CallOutcome (Result (Unit {0}) NoFrame)). record { answer = Err refused; after = o.after }) before
-
--- the region has a store still
-pub add_pages-store : (c : Content) (region rights count : ℕ) → HasStore region c → HasStore region (add_pages_of c region rights count).after
-unfolding add_pages_of
-add_pages-store c region rights zero store = store
-add_pages-store c region rights (suc count) store = by (add_pages_of c region rights count) (add_pages-store c region rights count store)
-  where
-    by : (o : CallOutcome (Result (Unit {0}) NoFrame)) → HasStore region o.after → HasStore region (then_add o.after o.answer (λ d. add_page_of d region count rights [])).after
-    by o store = by-answer o.answer
-      where
-        by-answer : (answer : Result (Unit {0}) NoFrame) → HasStore region (then_add o.after answer (λ d. add_page_of d region count rights [])).after
-        by-answer (Err refused) = store
-        by-answer (Ok done) = add_page-regions o.after region count rights [] region ∙ store
 
 -- What a space stands for after so many pages were added.
 pub record HasAdded {S : Type 0} (stands_for : S → Content → Type 0) (old new : S) (region rights count : ℕ) : Type 0 where

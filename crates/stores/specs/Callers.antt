@@ -13,11 +13,11 @@ use Rattle.machine_types.specs.declared.touches.Access.TheVariants.{Read}
 use Rattle.machine_types.specs.declared.touches.Note.{Note}
 
 -- a call on what another left, if that one answered Ok
-abbrev pub then_on : {A B : Type 0} → Content → Result A Refusal → (Content → A → CallOutcome (Result B Refusal)) → CallOutcome (Result B Refusal)
+abbrev pub then_on : {A B E : Type 0} → Content → Result A E → (Content → A → CallOutcome (Result B E)) → CallOutcome (Result B E)
 then_on after (Err refused) next = record { answer = Err refused; after = after }
 then_on after (Ok a) next = next after a
 
-abbrev pub then_do : {A B : Type 0} → CallOutcome (Result A Refusal) → (Content → A → CallOutcome (Result B Refusal)) → CallOutcome (Result B Refusal)
+abbrev pub then_do : {A B E : Type 0} → CallOutcome (Result A E) → (Content → A → CallOutcome (Result B E)) → CallOutcome (Result B E)
 then_do first next = then_on first.after first.answer next
 
 abbrev pub as_refusal : Result (Unit {0}) NoFrame → Result (Unit {0}) Refusal
@@ -40,16 +40,10 @@ made_fit true c prepared = record { answer = is_ok prepared.answer; after = prep
 abbrev pub take_bytes_of : Content → ℕ → ℕ → ℕ → CallOutcome Bool
 take_bytes_of c region at n = made_fit (covers_of c region at n Read) c (prepare_of c region at n Read)
 
--- a call on what another left, if that one found its frame
-abbrev pub then_add : Content → Result (Unit {0}) NoFrame → (Content → CallOutcome (Result (Unit {0}) NoFrame)) → CallOutcome (Result (Unit {0}) NoFrame)
-then_add after (Err lack) next = record { answer = Err lack; after = after }
-then_add after (Ok done) next = next after
-
 -- So many empty pages are added, from page 0 on. The first that finds no frame ends it, and the earlier ones stay.
 unfoldable pub add_pages_of : Content → ℕ → ℕ → ℕ → CallOutcome (Result (Unit {0}) NoFrame)
 add_pages_of c region rights zero = record { answer = Ok tt; after = c }
-add_pages_of c region rights (suc n) =
-    then_add (add_pages_of c region rights n).after (add_pages_of c region rights n).answer (λ d. add_page_of d region n rights [])
+add_pages_of c region rights (suc n) = then_do (add_pages_of c region rights n) (λ d done. add_page_of d region n rights [])
 
 -- a granule is stored at the front of each of so many pages
 unfoldable pub seed_pages_of : Content → ℕ → Cap → ℕ → Content

@@ -10,7 +10,7 @@ use Rattle.frame_owners.specs.Homes.{owner}
 use Rattle.contents.specs.Content.{Content, nothing, page_at, class_at, used_frames}
 use Rattle.contents.specs.Whole.{IsWhole}
 use Rattle.stores.specs.declared.board.Board.{Board}
-use Rattle.stores.specs.Boards.{IsEmpty, Stands, frame_of}
+use Rattle.stores.specs.Boards.{IsEmpty, Stands, frame_of, made_frames}
 
 -- two pages have one frame exactly where their members are in one class
 abbrev pub OneFrameForOneClass : Type 0
@@ -64,3 +64,11 @@ pub record BoardsShowPages : Type 0 where
   pub taken : (board : Board) (c : Content) (f : ℕ) → Stands board c → is_used board.pool f ≡ true → IsEntered (frame_of board.table.entries) f
   pub entered : (board : Board) (c : Content) (region page f : ℕ) → Stands board c → frame_of board.table.entries region page ≡ Some f → is_used board.pool f ≡ true
   pub free : (board : Board) (c : Content) (f : ℕ) → Stands board c → is_used board.pool f ≡ false → (owner board.owners f).sharers ≡ 0
+
+-- The number of made frames is the greatest that memory, pool and owners each have: each of the three has as many, and a
+-- number that each of them has is no greater.
+pub record MadeFramesAreInAll : Type 0 where
+  pub memory : (board : Board) → made_frames board ≤ length board.memory
+  pub pool : (board : Board) → made_frames board ≤ length board.pool.used
+  pub owners : (board : Board) → made_frames board ≤ length board.owners
+  pub most : (board : Board) (n : ℕ) → n ≤ length board.memory → n ≤ length board.pool.used → n ≤ length board.owners → n ≤ made_frames board

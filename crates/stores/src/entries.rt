@@ -34,8 +34,8 @@ pub fn entry_of(board: &Board, region: u32, page: u32) -> Option<Entry>
     board.table.look(region, page).ok()
 }
 
-/// The entry of the page of a place, below [`REGION_BYTES`], for an access. NoPage comes exactly where the page is absent,
-/// and then NoRight exactly where it lacks the right.
+/// The entry of the page of a place, below [`REGION_BYTES`], of a region, below [`MOST_REGIONS`], for an access. NoPage
+/// comes exactly where the page is absent, and then NoRight exactly where it lacks the right.
 pub fn entry_for(board: &Board, region: u32, at: u64, access: Access) -> Result<Entry, Refusal>
     requires region { region < MOST_REGIONS }
     requires within { at < REGION_BYTES }
@@ -65,7 +65,7 @@ fn covers_pages(board: &Board, region: u32, first: u32, past: u32, access: Acces
 }
 
 /// Whether every page under the `n` bytes from a place on is there with the right for the access. The bytes lie in the
-/// region. It looks at each page once.
+/// region, which is below [`MOST_REGIONS`]. It looks at each page once.
 pub fn covers(board: &Board, region: u32, at: u64, n: u64, access: Access) -> bool
     requires region { region < MOST_REGIONS }
     requires within { at + n ≤ REGION_BYTES }
@@ -89,9 +89,9 @@ fn fill_frame(memory: &mut Memory, frame: FrameNo, bytes: &[u8])
     memory.bytes_in(frame, 0, bytes);
 }
 
-/// Gives a page, which is absent, the least free frame: these bytes, at most [`PAGE_BYTES`], and then zeros, without a tag.
-/// The page is a class of its own, with its region as home. NoFrame comes exactly where no frame is free, and changes
-/// nothing.
+/// Gives a page, below [`REGION_PAGES`], of a region, below [`MOST_REGIONS`], the least free frame, with these rights:
+/// these bytes, at most [`PAGE_BYTES`], and then zeros, without a tag. The page is absent before, and then a class of its
+/// own, with its region as home. NoFrame comes exactly where no frame is free, and changes nothing.
 pub fn add_own_page(
     board: &mut Board,
     region: u32,

@@ -1,5 +1,5 @@
 // Laws of boards. Each function states one, does nothing and takes nothing.
-ghost use Rattle.stores.specs.Laws.{OneFrameForOneClass, FramesHaveClasses, BoardsStandForWholeContents, TakenAreUsed, SharersAreFew, BoardsShowPages, EmptyStandsForNothing};
+ghost use Rattle.stores.specs.Laws.{OneFrameForOneClass, FramesHaveClasses, BoardsStandForWholeContents, TakenAreUsed, SharersAreFew, BoardsShowPages, EmptyStandsForNothing, MadeFramesAreInAll};
 
 /// On a board two pages have one frame exactly where their members are in one class.
 pub fn one_frame_for_one_class()
@@ -35,4 +35,9 @@ pub fn empty_stands_for_nothing()
 /// What a board shows of pages: the same to each content that it stands for, moved from frames whose home is a region.
 pub fn boards_show_pages()
     ensures { BoardsShowPages }
+{}
+
+/// The number of made frames is the greatest that the memory, the pool and the owners of a board each have.
+pub fn made_frames_are_in_all()
+    ensures { MadeFramesAreInAll }
 {}

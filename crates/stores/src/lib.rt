@@ -23,7 +23,8 @@ pub use entries::{UNTOUCHED, add_own_page, covers, entry_for, entry_of};
 pub use examples::the_picture_stands;
 pub use laws::{
     boards_show_pages, boards_stand_for_whole_contents, empty_stands_for_nothing,
-    frames_have_classes, one_frame_for_one_class, sharers_are_few, taken_are_used,
+    frames_have_classes, made_frames_are_in_all, one_frame_for_one_class, sharers_are_few,
+    taken_are_used,
 };
 pub use live::LiveRegions;
 pub use pieces::{Piece, first_piece};

@@ -10,6 +10,7 @@ ghost use Rattle.contents.specs.Transfers.{covers_of, prepare_of, read_bytes_of,
 ghost use Rattle.contents.specs.Looks.{peek_of, rights_of, standing_of};
 ghost use Rattle.contents.specs.Touching.{notes_of_load, notes_of_store, notes_of_transfer};
 ghost use Rattle.contents.specs.Whole.{IsWhole};
+ghost use Rattle.contents.specs.Laws.{HasSameRegions};
 ghost use Rattle.stores.specs.Known.{Translations, StandsFor, Any, KeepsStores, KeepsOtherStores, standing, FrameStays, FramesStay, OtherFramesStay, FramesStayBut};
 ghost use Rattle.contents.specs.Conditions.{HasStore, HasNoStore, HasEmptyStore, LacksPage, IsOwn, Covers, IsPrepared};
 ghost use Rattle.machine_types.specs.declared.touches.Access.TheVariants.{Read, Write};
@@ -209,8 +210,8 @@ pub trait Stores {
     /// Gives the region `to`, which has no store, the store of `from`, moved. [`NoFrame`] comes only under
     /// [`Rule::Full`](machine_types::Rule::Full), exactly where fewer frames are free than `from` has pages.
     ///
-    /// The two conditions on stores may hold of two contents: which regions have a store is the same in all contents
-    /// that a space stands for, but a caller need not show that.
+    /// The two conditions on stores may hold of two contents, since the same regions have a store in all contents that
+    /// a space stands for.
     fn fork(&mut self, from: u32, to: u32) -> Result<(), NoFrame>
         requires from { from < MOST_REGIONS }
         requires to { to < MOST_REGIONS }
@@ -263,4 +264,7 @@ pub trait Stores {
     /// A translation shows how the page stands in every content that the space stands for, and is there exactly where
     /// the page is.
     ghost is_shown: { (s : Self) (c : Content) → stands_for s c → (region page : ℕ) → option_map standing (translation_at s region page) ≡ standing_of c region page };
+
+    /// The same regions have a store in all contents that it stands for.
+    ghost are_same: { (s : Self) (c d : Content) → stands_for s c → stands_for s d → HasSameRegions c d };
 }

@@ -17,7 +17,7 @@ loop-done-init c = record { within = omega arith; own = c.requires.own; stored =
 pub unwrap-entry-requires : goal.unwrap-entry-requires
 unwrap-entry-requires c =
     rw (c.entry_of.ensures, c.first_piece-piece.ensures.page, c.loop-done.invariant.table)
-    (covered-there c.args.board.now c.args.region c.args.at (length c.args.from.now) Write c.requires.own c.requires.covered c.loop-done.done (omega arith))
+    (covered-there c.args.board.now c.args.region c.args.at (length c.args.from.now) Write c.requires.covered c.loop-done.done (omega arith))
 
 pub bytes_in-requires-clause-frame : goal.bytes_in-requires-clause-frame
 bytes_in-requires-clause-frame c =

@@ -16,7 +16,7 @@ loop-done-init c = record { within = omega arith; read = λ content stands. refl
 pub unwrap-entry-requires : goal.unwrap-entry-requires
 unwrap-entry-requires c =
     rw (c.entry_of.ensures, c.first_piece-piece.ensures.page)
-    (covered-there c.args.board.now c.args.region c.args.at (length c.args.into.now) Read c.requires.own c.requires.covered c.loop-done.done (omega arith))
+    (covered-there c.args.board.now c.args.region c.args.at (length c.args.into.now) Read c.requires.covered c.loop-done.done (omega arith))
 
 pub bytes_out-requires-clause-frame : goal.bytes_out-requires-clause-frame
 bytes_out-requires-clause-frame c =

@@ -5,12 +5,12 @@ use Rattle.stores.specs.declared.board.Board.{Board}
 use Rattle.stores.specs.Boards.{Stands}
 
 -- both have the same pages, classes and frames
-pub record AreAlike (c d : Content) : Type 0 where
+pub record StandAlike (c d : Content) : Type 0 where
   pub pages : (region page : ℕ) → page_at d region page ≡ page_at c region page
   pub account : d.account ≡ c.account
   pub frames : d.frames ≡ c.frames
 
-pub stands-alike : (board : Board) (c d : Content) → AreAlike c d → Stands board c → Stands board d
+pub stands-alike : (board : Board) (c d : Content) → StandAlike c d → Stands board c → Stands board d
 stands-alike board c d alike stands = record {
   frames = stands.frames;
   kept = rw (alike.frames, alike.account) stands.kept;
