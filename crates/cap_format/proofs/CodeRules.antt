@@ -8,7 +8,7 @@ use Rattle.cap_format.specs.Numbers.{most_regions, region_bytes, permit_execute}
 use Rattle.cap_format.specs.declared.cap.Cap.{Cap}
 use Rattle.cap_format.specs.Pattern.{address_of, kind_of, base_of, top_of, with_address_bits}
 use Rattle.cap_format.specs.Region.{region_start, IsInside}
-use Rattle.cap_format.specs.Rights.{holds}
+use Rattle.cap_format.specs.Rights.{allows, holds}
 use Rattle.cap_format.specs.Made.{with_address}
 use Rattle.cap_format.specs.Moves.{moved, distance}
 use Rattle.cap_format.specs.Code.{IsCode}
@@ -42,6 +42,37 @@ code-moves cap from to pattern some other code inside = moves cap.bits cap.tag p
 below-end : (top : ℤ) (address region : ℕ) → region < most_regions → pos address ≤ℤ top → top ≤ℤ pos (region_start region + region_bytes) → address < 2 ^ 64
 below-end top address region some low high = omega (arith, ints)
 
+-- an address from the base to the top of a capability that is inside a region
+module _ (cap : Cap) (region address : ℕ) (some : region < most_regions) (inside : IsInside cap.bits region) (from : base_of cap.bits ≤ℤ pos address) (to : pos address ≤ℤ top_of cap.bits) where
+  -- it has 64 bits
+  pub there-fits : address < 2 ^ 64
+  there-fits = let high = inside.to in below-end (top_of cap.bits) address region some to high
+
+  -- so the base stays
+  there-base : base_of (with_address_bits cap.bits address) ≡ base_of cap.bits
+  there-base = within-base cap.bits address there-fits from to
+
+  -- and the top
+  there-top : top_of (with_address_bits cap.bits address) ≡ top_of cap.bits
+  there-top = within-top cap.bits address there-fits from to
+
+  -- at a multiple of 4 it is code, where the capability is tagged and plain and may execute
+  pub code-there : IsTrue cap.tag → kind_of cap.bits ≡ 0 → IsTrue (allows cap.bits permit_execute) → address % 4 ≡ 0 → IsCode (with_address cap address)
+  unfolding with_address
+  code-there tagged plain executes aligned =
+      let upper = ap (λ m. m / 2 ^ 27) (with_address-meta cap.bits address there-fits) in
+      record {
+        tagged = and_from _ _ (and_from _ _ (and_from cap.tag (kind_of cap.bits == 0) tagged (eq-eqb (kind_of cap.bits) 0 plain)) ((Decides-int_eq _ _).1 there-base)) ((Decides-int_eq _ _).1 there-top);
+        plain = upper-kind _ cap.bits upper ∙ plain;
+        executes = ap (λ x. bit_and x permit_execute == permit_execute) (upper-perms _ cap.bits upper) ∙ executes;
+        aligned = ap (λ x. x % 4) (with_address-address cap.bits address there-fits) ∙ aligned;
+      }
+
+  -- inside the region
+  pub inside-there : IsInside (with_address cap address).bits region
+  unfolding with_address
+  inside-there = record { from = rw there-base inside.from; to = rw there-top inside.to }
+
 -- code goes on to the next word
 module _ (cap : Cap) (region : ℕ) (some : region < most_regions) (code : IsCode cap) (inside : IsInside cap.bits region) (held : IsTrue (holds cap.bits (address_of cap.bits) 4)) where
   -- the address of the next word
@@ -55,32 +86,14 @@ module _ (cap : Cap) (region : ℕ) (some : region < most_regions) (code : IsCod
       let from = bytes.from in
       (omega (arith, ints, from), bytes.to)
 
-  -- and has 64 bits
-  next-fits : next < 2 ^ 64
-  next-fits = let high = inside.to in below-end (top_of cap.bits) next region some next-within.1 high
-
-  -- so the base stays
-  next-base : base_of (with_address_bits cap.bits next) ≡ base_of cap.bits
-  next-base = within-base cap.bits next next-fits next-within.0 next-within.1
-
-  -- and the top
-  next-top : top_of (with_address_bits cap.bits next) ≡ top_of cap.bits
-  next-top = within-top cap.bits next next-fits next-within.0 next-within.1
+  -- it has 64 bits
+  pub next-fits : next < 2 ^ 64
+  next-fits = there-fits cap region next some inside next-within.0 next-within.1
 
   -- it is code
   pub code-next : IsCode (with_address cap next)
-  unfolding with_address
-  code-next =
-      let upper = ap (λ m. m / 2 ^ 27) (with_address-meta cap.bits next next-fits) in
-      let aligned = code.aligned in
-      record {
-        tagged = and_from _ _ (and_from _ _ (and_from cap.tag (kind_of cap.bits == 0) code.tagged (eq-eqb (kind_of cap.bits) 0 code.plain)) ((Decides-int_eq _ _).1 next-base)) ((Decides-int_eq _ _).1 next-top);
-        plain = upper-kind _ cap.bits upper ∙ code.plain;
-        executes = ap (λ x. bit_and x permit_execute == permit_execute) (upper-perms _ cap.bits upper) ∙ code.executes;
-        aligned = ap (λ x. x % 4) (with_address-address cap.bits next next-fits) ∙ omega arith;
-      }
+  code-next = let aligned = code.aligned in code-there cap region next some inside next-within.0 next-within.1 code.tagged code.plain code.executes (omega arith)
 
   -- inside the region
   pub inside-next : IsInside (with_address cap next).bits region
-  unfolding with_address
-  inside-next = record { from = rw next-base inside.from; to = rw next-top inside.to }
+  inside-next = inside-there cap region next some inside next-within.0 next-within.1

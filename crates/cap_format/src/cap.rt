@@ -220,7 +220,15 @@ impl Cap {
     pub fn top(self) -> i128
         ensures { result ≡ top_of self.bits }
     {
-        self.base() + self.length() as i128
+        self.top_from(self.base())
+    }
+
+    // The top, where the base is known.
+    fn top_from(self, base: i128) -> i128
+        requires { base ≡ base_of self.bits }
+        ensures { result ≡ top_of self.bits }
+    {
+        base + self.length() as i128
     }
 
     /// The capability with another address, in bytes.
@@ -258,7 +266,8 @@ impl Cap {
         ensures { result ≡ holds self.bits address size }
     {
         let start = i128::from(address);
-        self.base() <= start && start + i128::from(size) <= self.top()
+        let base = self.base();
+        base <= start && start + i128::from(size) <= self.top_from(base)
     }
 
     /// Fewer permissions: those that the mask has too. No other bit changes.
@@ -447,7 +456,8 @@ impl Cap {
     fn has_bounds_of(self, other: Cap) -> bool
         ensures { IsTrue result ↔ ((base_of self.bits ≡ base_of other.bits) × (top_of self.bits ≡ top_of other.bits)) }
     {
-        self.base() == other.base() && self.top() == other.top()
+        let (base, others) = (self.base(), other.base());
+        base == others && self.top_from(base) == other.top_from(others)
     }
 }
 

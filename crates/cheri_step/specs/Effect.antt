@@ -1,107 +1,102 @@
--- What one instruction does, over a machine whose region 0 has one page, which may be read and executed.
--- The order of the tests is this project's own.
-use Rattle.std.specs.Prelude.{◌≡◌, ℕ, ◌+◌, ◌-◌, ◌&&◌, Bool, nat_lt, nat_le, if◌then◌else◌, IsTrue, List, Result, Ok, Err, Some, None}
-use Rattle.std.specs.declared.option.Option.{Option}
-use Rattle.cap_format.specs.Numbers.{first_region, page_bytes}
+-- The effect of the instruction at PCC.
+use Rattle.std.specs.Prelude.{ℕ, ◌≡◌, Result, Ok, Err, Some, None, Option, List}
 use Rattle.cap_format.specs.declared.cap.Cap.{Cap}
-use Rattle.cap_format.specs.Pattern.{address_of}
-use Rattle.cap_format.specs.Rights.{holds}
-use Rattle.cap_format.specs.Made.{with_address}
-use Rattle.cap_format.specs.Region.{IsInside}
 use Rattle.cap_format.specs.Code.{IsCode}
 use Rattle.machine_types.specs.declared.cause.Cause.{Cause}
-use Rattle.machine_types.specs.declared.cause.Cause.TheVariants.{BadInstruction, Breakpoint, CodeBounds, CodePage}
-use Rattle.cheri_step.specs.declared.first.FirstEnd.{FirstEnd}
-use Rattle.cheri_step.specs.declared.first.FirstEnd.TheVariants.{Next, Call, Fault}
-use Rattle.machine_types.specs.Registers.{register, with_register, AreInside}
+use Rattle.machine_types.specs.declared.cause.Cause.TheVariants.{BadInstruction}
+use Rattle.machine_types.specs.declared.touches.Note.{Note}
+use Rattle.machine_types.specs.Registers.{IsRegisterFile}
 use Rattle.riscv_decode.specs.declared.instr.Instr.{Instr}
-use Rattle.riscv_decode.specs.declared.instr.Instr.TheVariants.{Reg, Imm, Load, Store, Branch, Upper, Jal, Jalr, One, Ecall, Ebreak, Fence}
 use Rattle.riscv_decode.specs.Decoded.{decoded}
-use Rattle.cheri_step.specs.Words.{word_at}
-use Rattle.cheri_step.specs.Results.{sum64, reg_result, imm_result, upper_result, one_result}
+use Rattle.contents.specs.Content.{Content}
+use Rattle.contents.specs.Accesses.{untouched}
+use Rattle.contents.specs.Conditions.{HasStore}
+use Rattle.contents.specs.Having.{MayHave, RegistersMayHave}
+use Rattle.cheri_step.specs.declared.step.StepEnd.{StepEnd}
+use Rattle.cheri_step.specs.declared.step.StepEnd.TheVariants.{Next, Fault}
+use Rattle.cheri_step.specs.declared.step.Stepped.{Stepped}
+use Rattle.cheri_step.specs.declared.step.Worked.{Worked}
+use Rattle.cheri_step.specs.Results.{next_pcc}
+use Rattle.cheri_step.specs.Access.{access_of, code_of}
+use Rattle.cheri_step.specs.Plans.{Plan, ends, asks, faults, planned}
 
--- how an instruction ends, and the registers and PCC after it
-pub record Effect : Type 0 where
-  pub end : FirstEnd
+-- what an instruction reads and changes: the registers, PCC, and the content of the space
+pub record State : Type 0 where
   pub registers : List Cap
   pub pcc : Cap
+  pub content : Content
 
--- PCC at the next instruction
-abbrev pub next_pcc : Cap → Cap
-next_pcc pcc = with_address pcc (sum64 (address_of pcc.bits) 4)
+abbrev pub state : List Cap → Cap → Content → State
+state registers pcc content = record { registers = registers; pcc = pcc; content = content }
 
--- a call or a fault leaves the registers and PCC as they were
-abbrev pub ends : List Cap → Cap → FirstEnd → Effect
-ends registers pcc end = record { end = end; registers = registers; pcc = pcc }
+-- how an instruction ended, what it left, and the touch of its load or store
+pub record Work : Type 0 where
+  pub end : StepEnd
+  pub after : State
+  pub touched : Note
 
--- a result is put, and PCC goes on
-abbrev pub gives : List Cap → Cap → ℕ → Cap → Effect
-gives registers pcc n result = record { end = Next; registers = with_register registers n result; pcc = next_pcc pcc }
+-- a load or a store was made, or not
+abbrev pub performed : State → (Cap → List Cap) → Content → Result (Cap × Note) Cause → Work
+performed s registers after (Ok a) = record { end = Next; after = state (registers a.0) (next_pcc s.pcc) after; touched = a.1 }
+performed s registers after (Err cause) = record { end = Fault cause; after = state s.registers s.pcc after; touched = untouched }
 
--- a result is put, where the row is built
-abbrev pub gives_if : List Cap → Cap → ℕ → Option Cap → Effect
-gives_if registers pcc n None = ends registers pcc (Fault BadInstruction)
-gives_if registers pcc n (Some result) = gives registers pcc n result
-
--- An instruction by its row. A row that isn't built ends as a word that is none.
-abbrev pub performed : List Cap → Cap → Instr → Effect
-performed registers pcc (Reg op d s t) = gives_if registers pcc d (reg_result op (register registers s) (register registers t))
-performed registers pcc (Imm op d s i) = gives_if registers pcc d (imm_result op (register registers s) i)
-performed registers pcc (Upper op d i) = gives_if registers pcc d (upper_result op pcc i)
-performed registers pcc (One op d s) = gives registers pcc d (one_result op (register registers s))
-performed registers pcc Ecall = ends registers pcc Call
-performed registers pcc Ebreak = ends registers pcc (Fault Breakpoint)
-performed registers pcc Fence = record { end = Next; registers = registers; pcc = next_pcc pcc }
-performed registers pcc (Load op d s i) = ends registers pcc (Fault BadInstruction)
-performed registers pcc (Store op s t i) = ends registers pcc (Fault BadInstruction)
-performed registers pcc (Branch op s t i) = ends registers pcc (Fault BadInstruction)
-performed registers pcc (Jal d i) = ends registers pcc (Fault BadInstruction)
-performed registers pcc (Jalr d s i) = ends registers pcc (Fault BadInstruction)
+-- what a plan comes to
+abbrev pub carried_out : State → ℕ → Plan → Work
+carried_out s region (ends end registers pcc) = record { end = end; after = state registers pcc s.content; touched = untouched }
+carried_out s region (asks d) =
+    let o = access_of s.content region d.authority d.address d.op in
+    performed s d.registers o.after o.answer
 
 -- a word without a row is no instruction
-abbrev pub executed : List Cap → Cap → Option Instr → Effect
-executed registers pcc None = ends registers pcc (Fault BadInstruction)
-executed registers pcc (Some instr) = performed registers pcc instr
+abbrev pub plan_of : State → Option Instr → Plan
+plan_of s (Some instr) = planned s.registers s.pcc instr
+plan_of s None = faults s.registers s.pcc BadInstruction
 
--- the address lies on page 0 of region 0
-abbrev pub is_on_page : ℕ → Bool
-is_on_page address = nat_le first_region address && nat_lt address (first_region + page_bytes)
+abbrev pub work_of : State → ℕ → ℕ → Work
+work_of s region word = carried_out s region (plan_of s (decoded word))
 
--- The fetch: the four bytes lie in the bounds of PCC, and then the page is there.
-abbrev pub fetched : Cap → List ℕ → Result ℕ Cause
-fetched pcc page =
-    let address = address_of pcc.bits in
-    if holds pcc.bits address 4
-    then (if is_on_page address then Ok (word_at page (address - first_region)) else Err CodePage)
-    else Err CodeBounds
+-- How the instruction at PCC ended, its word where one was fetched, what it left, and the touches of the fetch and of its load or
+-- store.
+pub record Effect : Type 0 where
+  pub end : StepEnd
+  pub word : Option ℕ
+  pub after : State
+  pub fetched : Note
+  pub touched : Note
 
-abbrev pub effect_of : List Cap → Cap → Result ℕ Cause → Effect
-effect_of registers pcc (Ok word) = executed registers pcc (decoded word)
-effect_of registers pcc (Err cause) = ends registers pcc (Fault cause)
+-- The word is executed in what the fetch left.
+abbrev pub executed : ℕ × Note → Work → Effect
+executed f w = record { end = w.end; word = Some f.0; after = w.after; fetched = f.1; touched = w.touched }
 
--- what the instruction at PCC does
-unfoldable pub first_effect : List Cap → Cap → List ℕ → Effect
-first_effect registers pcc page = effect_of registers pcc (fetched pcc page)
+abbrev pub fetch_then : State → ℕ → Content → Result (ℕ × Note) Cause → Effect
+fetch_then s region after (Ok f) = executed f (work_of (state s.registers s.pcc after) region f.0)
+fetch_then s region after (Err cause) = record { end = Fault cause; word = None; after = state s.registers s.pcc after; fetched = untouched; touched = untouched }
 
--- an effect came about
-pub record HasEffect (effect : Effect) (end : FirstEnd) (registers : List Cap) (pcc : Cap) : Type 0 where
-  pub end_is : end ≡ effect.end
-  pub registers_are : registers ≡ effect.registers
-  pub pcc_is : pcc ≡ effect.pcc
+-- What the instruction at PCC does, for a process of this region.
+unfoldable pub effect : State → ℕ → Effect
+effect s region =
+    let o = code_of s.content region s.pcc in
+    fetch_then s region o.after o.answer
 
--- PCC is code, and PCC and each tagged register lie inside the region
-pub record IsSound (registers : List Cap) (pcc : Cap) (region : ℕ) : Type 0 where
+-- The registers are a register file, PCC is code, and PCC and each register are what a process of the region may have, which has a
+-- store.
+pub record CanStep (region : ℕ) (registers : List Cap) (pcc : Cap) (c : Content) : Type 0 where
+  pub store : HasStore region c
   pub code : IsCode pcc
-  pub pcc_inside : IsInside pcc.bits region
-  pub registers_inside : AreInside registers region
+  pub file : IsRegisterFile registers
+  pub counter : MayHave c region pcc
+  pub registers_held : RegistersMayHave c region registers
 
--- the instruction at PCC was fetched
-pub record WasFetched (bits : ℕ) : Type 0 where
-  pub held : IsTrue (holds bits (address_of bits) 4)
-  pub on_page : IsTrue (is_on_page (address_of bits))
+-- the work came about, over a space that stands for the content after it
+pub record HasWork (w : Work) (result : Worked) (registers : List Cap) (pcc : Cap) (stands : Content → Type 0) : Type 0 where
+  pub worked : result ≡ record { end = w.end; touched = w.touched }
+  pub registers_are : registers ≡ w.after.registers
+  pub pcc_is : pcc ≡ w.after.pcc
+  pub content : stands w.after.content
 
--- What stands after an instruction that ended so: PCC is 4 bytes on, or the registers and PCC are as before.
-abbrev pub IsAfter : FirstEnd → List Cap → Cap → List Cap → Cap → Type 0
-IsAfter Next old_registers old_pcc registers pcc = WasFetched old_pcc.bits × (address_of pcc.bits ≡ address_of old_pcc.bits + 4)
-IsAfter Call old_registers old_pcc registers pcc = WasFetched old_pcc.bits × (registers ≡ old_registers) × (pcc ≡ old_pcc)
-IsAfter (Fault cause) old_registers old_pcc registers pcc = (registers ≡ old_registers) × (pcc ≡ old_pcc)
+-- the effect came about, over such a space
+pub record HasEffect (e : Effect) (result : Stepped) (registers : List Cap) (pcc : Cap) (stands : Content → Type 0) : Type 0 where
+  pub stepped : result ≡ record { end = e.end; word = e.word; fetched = e.fetched; touched = e.touched }
+  pub registers_are : registers ≡ e.after.registers
+  pub pcc_is : pcc ≡ e.after.pcc
+  pub content : stands e.after.content

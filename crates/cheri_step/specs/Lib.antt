@@ -1,3 +1,10 @@
 pub mod Words
 pub mod Results
+pub mod First
+pub mod Tests
+pub mod Access
+pub mod Held
+pub mod Plans
 pub mod Effect
+pub mod Laws
+pub mod Examples

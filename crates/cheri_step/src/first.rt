@@ -3,16 +3,17 @@ ghost use Rattle.std.specs.Prelude.{◌≡◌, ◌<◌, ◌^◌, ◌-◌, ◌+�
 ghost use Rattle.cap_format.specs.Pattern.{address_of};
 ghost use Rattle.cap_format.specs.Rights.{holds};
 ghost use Rattle.cap_format.specs.Region.{IsInside};
-ghost use Rattle.std.specs.Option.{ForSome};
 ghost use Rattle.riscv_decode.specs.Table.{IsInRange};
 ghost use Rattle.riscv_decode.specs.Decoded.{decoded};
-ghost use Rattle.cheri_step.specs.Effect.{first_effect, fetched, executed, performed, gives, gives_if, next_pcc, IsSound, WasFetched, HasEffect, IsAfter};
+ghost use Rattle.cheri_step.specs.Results.{next_pcc};
+ghost use Rattle.cheri_step.specs.First.{first_effect, fetched, executed, performed, gives, gives_if, is_built, is_auipcc, IsSound, WasFetched, HasEffect, IsAfter};
 ghost use Rattle.cap_format.specs.Code.{IsCode};
 
 use crate::results::{imm_result, one_result, reg_result, upper_result};
 use cap_format::{Cap, FIRST_REGION, PAGE_BYTES};
+use int_step::is_integer;
 use machine_types::{Cause, Regs};
-use riscv_decode::{Instr, decode};
+use riscv_decode::{ImmOp, Instr, UpperOp, decode};
 
 /// How an instruction ended.
 #[derive(Clone, Copy, Debug, PartialEq, Eq)]
@@ -93,15 +94,15 @@ fn perform(regs: &mut Regs, pcc: &mut Cap, instr: Instr) -> FirstEnd
     match instr {
         Instr::Reg { op, rd, rs1, rs2 } => {
             let result = reg_result(op, regs.get(rs1), regs.get(rs2));
-            give_if(regs, pcc, rd, result)
+            give_if(regs, pcc, rd, result, !is_integer(op))
         }
         Instr::Imm { op, rd, rs1, imm } => {
             let result = imm_result(op, regs.get(rs1), imm);
-            give_if(regs, pcc, rd, result)
+            give_if(regs, pcc, rd, result, is_built(op))
         }
         Instr::Upper { op, rd, imm } => {
             let result = upper_result(op, *pcc, imm);
-            give_if(regs, pcc, rd, result)
+            give_if(regs, pcc, rd, result, is_auipcc(op))
         }
         Instr::One { op, rd, rs1 } => {
             let result = one_result(op, regs.get(rs1));
@@ -121,19 +122,37 @@ fn perform(regs: &mut Regs, pcc: &mut Cap, instr: Instr) -> FirstEnd
     }
 }
 
+// Whether a row with an immediate is built.
+fn is_built(op: ImmOp) -> bool
+    ensures { result ≡ is_built op }
+{
+    matches!(
+        op,
+        ImmOp::Addi | ImmOp::CIncOffsetImm | ImmOp::CSetBoundsImm
+    )
+}
+
+// Whether a row with an upper immediate is built.
+fn is_auipcc(op: UpperOp) -> bool
+    ensures { result ≡ is_auipcc op }
+{
+    matches!(op, UpperOp::Auipcc)
+}
+
 // Puts the result of an instruction, where its row is built.
-fn give_if(regs: &mut Regs, pcc: &mut Cap, n: u8, given: Option<Cap>) -> FirstEnd
+fn give_if(regs: &mut Regs, pcc: &mut Cap, n: u8, given: Cap, built: bool) -> FirstEnd
     requires number { n < 32 }
-    requires inside { ForSome given (λ cap. IsTrue cap.tag → IsInside cap.bits 0) }
+    requires inside { IsTrue given.tag → IsInside given.bits 0 }
     requires sound { IsSound regs.old pcc.old 0 }
     requires fetched { WasFetched pcc.old.bits }
-    ensures effect { HasEffect (gives_if regs.old pcc.old n given) result regs.new pcc.new }
+    ensures effect { HasEffect (gives_if built regs.old pcc.old n given) result regs.new pcc.new }
     ensures keeps { IsSound regs.new pcc.new 0 }
     ensures after { IsAfter result regs.old pcc.old regs.new pcc.new }
 {
-    match given {
-        Some(cap) => give(regs, pcc, n, cap),
-        None => FirstEnd::Fault(Cause::BadInstruction),
+    if built {
+        give(regs, pcc, n, given)
+    } else {
+        FirstEnd::Fault(Cause::BadInstruction)
     }
 }
 

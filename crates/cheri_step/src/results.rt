@@ -1,16 +1,17 @@
 // What instructions on capabilities and integers give.
-ghost use Rattle.std.specs.Prelude.{◌≡◌, ◌<◌, ◌^◌, pos, ◌≤ℤ◌, IfSome};
-ghost use Rattle.cheri_step.specs.Results.{reg_result, imm_result, upper_result, one_result, exact_bounds, is_around, is_subset, truth, shown_base, shown_length, wrapped64, extended, Derives};
+ghost use Rattle.std.specs.Prelude.{◌≡◌, ◌<◌, ◌^◌};
+ghost use Rattle.cheri_step.specs.Results.{reg_result, imm_result, upper_result, one_result, exact_bounds, is_around, is_subset, truth_cap, shown_base, shown_length};
+ghost use Rattle.int_step.specs.Values.{wrapped};
 
 use cap_format::{Cap, align_mask, rounded_length};
+use int_step::{extended, operand, reg_value, register_row};
 use riscv_decode::{ImmOp, OneOp, RegOp, UpperOp};
 
-/// What a row of two sources gives, where it is built. The result derives from the first source.
-pub fn reg_result(op: RegOp, a: Cap, b: Cap) -> Option<Cap>
-    ensures is { result ≡ reg_result op a b }
-    ensures derives { IfSome result (Derives a) }
+/// What a row of two sources gives.
+pub fn reg_result(op: RegOp, a: Cap, b: Cap) -> Cap
+    ensures { result ≡ reg_result op a b }
 {
-    let result = match op {
+    match op {
         RegOp::CSetBounds => a.set_bounds(b.address()).cap,
         RegOp::CSetBoundsExact => exact_bounds(a, b.address()),
         RegOp::CAndPerm => a.and_perms((b.address() % (1 << 16)) as u16),
@@ -19,42 +20,32 @@ pub fn reg_result(op: RegOp, a: Cap, b: Cap) -> Option<Cap>
         RegOp::CSub => Cap::from_int(a.address().wrapping_sub(b.address())),
         RegOp::CTestSubset => truth(is_subset(a, b)),
         RegOp::CSeqx => truth(a == b),
-        _ => return None,
-    };
-    Some(result)
-}
-
-/// What a row of a source and an immediate gives, where it is built. The result derives from the source.
-pub fn imm_result(op: ImmOp, a: Cap, imm: i32) -> Option<Cap>
-    ensures is { result ≡ imm_result op a imm }
-    ensures derives { IfSome result (Derives a) }
-{
-    let sum = a.address().wrapping_add(i64::from(imm).cast_unsigned());
-    let result = match op {
-        ImmOp::Addi => Cap::from_int(sum),
-        ImmOp::CIncOffsetImm => a.with_address(sum),
-        ImmOp::CSetBoundsImm => a.set_bounds(u64::from(imm.unsigned_abs())).cap,
-        _ => return None,
-    };
-    Some(result)
-}
-
-/// What a row of an upper immediate, below `2^20`, gives at PCC, where it is built. The result derives from PCC.
-pub fn upper_result(op: UpperOp, pcc: Cap, imm: u32) -> Option<Cap>
-    requires { imm < 2 ^ 20 }
-    ensures is { result ≡ upper_result op pcc imm }
-    ensures derives { IfSome result (Derives pcc) }
-{
-    match op {
-        UpperOp::Auipcc => Some(pcc.with_address(pcc.address().wrapping_add(extended(imm * 4096)))),
-        UpperOp::Lui => None,
+        _ => Cap::from_int(reg_value(op, a.address(), b.address())),
     }
 }
 
-/// What a row of one source gives. The result derives from the source.
+/// What a row of a source and an immediate gives: what the row of two sources does, with the immediate as an integer.
+pub fn imm_result(op: ImmOp, a: Cap, imm: i32) -> Cap
+    ensures { result ≡ imm_result op a imm }
+{
+    reg_result(register_row(op), a, Cap::from_int(operand(imm)))
+}
+
+/// What a row of an upper immediate, below `2^20`, gives at PCC.
+pub fn upper_result(op: UpperOp, pcc: Cap, imm: u32) -> Cap
+    requires { imm < 2 ^ 20 }
+    ensures { result ≡ upper_result op pcc imm }
+{
+    let upper = extended(imm * 4096);
+    match op {
+        UpperOp::Lui => Cap::from_int(upper),
+        UpperOp::Auipcc => pcc.with_address(pcc.address().wrapping_add(upper)),
+    }
+}
+
+/// What a row of one source gives.
 pub fn one_result(op: OneOp, a: Cap) -> Cap
-    ensures is { result ≡ one_result op a }
-    ensures derives { Derives a result }
+    ensures { result ≡ one_result op a }
 {
     match op {
         OneOp::CGetPerm => Cap::from_int(u64::from(a.perms())),
@@ -77,15 +68,14 @@ pub fn one_result(op: OneOp, a: Cap) -> Cap
 
 // A truth value as an integer.
 fn truth(holds: bool) -> Cap
-    ensures { result ≡ truth holds }
+    ensures { result ≡ truth_cap holds }
 {
     Cap::from_int(u64::from(holds))
 }
 
 // The bounds that are asked for, without the tag where they were rounded.
 fn exact_bounds(a: Cap, size: u64) -> Cap
-    ensures is { result ≡ exact_bounds a size }
-    ensures derives { Derives a result }
+    ensures { result ≡ exact_bounds a size }
 {
     let bounded = a.set_bounds(size);
     Cap {
@@ -110,7 +100,7 @@ fn is_around(a: Cap, b: Cap) -> bool
 
 // An integer without a bound modulo 2^64.
 fn wrapped(value: i128) -> u64
-    ensures { result ≡ wrapped64 value }
+    ensures { result ≡ wrapped 64 value }
 {
     value.rem_euclid(1 << 64).unsigned_abs() as u64
 }
@@ -131,11 +121,4 @@ fn shown_length(a: Cap) -> u64
     } else {
         0
     }
-}
-
-// A number of 32 bits as one of 64 with the same sign.
-fn extended(n: u32) -> u64
-    ensures { result ≡ extended n }
-{
-    i64::from(n.cast_signed()).cast_unsigned()
 }

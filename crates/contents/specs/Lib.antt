@@ -6,6 +6,7 @@ pub mod Transfers
 pub mod Splitting
 pub mod Looks
 pub mod Conditions
+pub mod Having
 pub mod Laws
 pub mod Whole
 pub mod Reading

@@ -25,7 +25,7 @@ pub struct FullSpace {
 
 impl FullSpace {
     ghost use Rattle.machine_types.specs.declared.config.Rule.TheVariants.{Full};
-    ghost use Rattle.full_space.specs.Full.{FullStands};
+    ghost use Rattle.full_space.specs.Full.{FullStands, frames_of};
 
     /// A space on an empty board, in which no region has a store.
     pub fn new(board: Board) -> FullSpace
@@ -39,9 +39,10 @@ impl FullSpace {
         }
     }
 
-    /// Its board, which stands for what the space stood for.
+    /// Its board, which stands for what the space stood for. Its memory has the frames that the space showed.
     pub fn into_board(self) -> Board
-        ensures { (c : Content) → FullStands self c → Stands result c }
+        ensures stands { (c : Content) → FullStands self c → Stands result c }
+        ensures memory { result.memory ≡ frames_of self }
     {
         self.board
     }

@@ -2,7 +2,7 @@
 use Rattle.std.proofs.Common.{◌≡◌, ◌+◌, refl, ap, ◌∙◌}
 use Rattle.cheri_step.specs.declared.first.FirstEnd.{FirstEnd}
 use Rattle.cheri_step.specs.declared.first.FirstEnd.TheVariants.{Next, Call, Fault}
-use Rattle.cheri_step.specs.Effect.{first_effect}
+use Rattle.cheri_step.specs.First.{first_effect}
 use Rattle.ufork_program.specs.Machine.{Machine}
 use Rattle.ufork_program.specs.Calls.{CallEffect, answers, exits, call_effect}
 use Rattle.ufork_program.specs.Steps.{step_of, after_instruction, after_call}

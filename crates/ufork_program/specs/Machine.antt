@@ -5,7 +5,7 @@ use Rattle.cap_format.specs.declared.cap.Cap.{Cap}
 use Rattle.cap_format.specs.Pattern.{address_of}
 use Rattle.cap_format.specs.Made.{null, root}
 use Rattle.machine_types.specs.Registers.{with_register}
-use Rattle.cheri_step.specs.Effect.{IsSound}
+use Rattle.cheri_step.specs.First.{IsSound}
 use Rattle.ufork_program.specs.Numbers.{code_permissions, data_permissions}
 
 -- the page, the process's registers and PCC, whether it is live, and the steps made

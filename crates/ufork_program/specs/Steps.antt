@@ -8,7 +8,8 @@ use Rattle.cheri_step.specs.declared.first.FirstEnd.{FirstEnd}
 use Rattle.cheri_step.specs.declared.first.FirstEnd.TheVariants.{Next, Call, Fault}
 use Rattle.machine_types.specs.Causes.{cause_number}
 use Rattle.machine_types.specs.Registers.{with_register}
-use Rattle.cheri_step.specs.Effect.{Effect, first_effect, next_pcc}
+use Rattle.cheri_step.specs.First.{FirstEffect, first_effect}
+use Rattle.cheri_step.specs.Results.{next_pcc}
 use Rattle.ufork_program.specs.Lines.{exit_line}
 use Rattle.ufork_program.specs.Machine.{Machine}
 use Rattle.ufork_program.specs.Calls.{CallEffect, answers, exits, call_effect}
@@ -21,7 +22,7 @@ pub record Step : Type 0 where
   pub piece : List ℕ
   pub ended : Option ℕ
 
-abbrev pub goes_on : Machine → Effect → Step
+abbrev pub goes_on : Machine → FirstEffect → Step
 goes_on m effect = record { after = record m { registers = effect.registers; pcc = effect.pcc; steps = m.steps + 1 }; piece = []; ended = None }
 
 abbrev pub ends_with : Machine → ℕ → Step
@@ -37,7 +38,7 @@ after_call m (answers value piece) = record {
 after_call m (exits status) = ends_with m status
 
 -- A fault kills the process with the status 256 plus its cause.
-abbrev pub after_instruction : Machine → Effect → FirstEnd → Step
+abbrev pub after_instruction : Machine → FirstEffect → FirstEnd → Step
 after_instruction m effect Next = goes_on m effect
 after_instruction m effect Call = after_call m (call_effect m.registers m.page)
 after_instruction m effect (Fault cause) = ends_with m (256 + cause_number cause)

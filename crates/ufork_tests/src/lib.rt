@@ -1,11 +1,26 @@
-//! Whole runs of the program over memory, and over writers that take a part of a line.
+//! Whole runs of the program over memory, and over writers that take a part of a line; and single instructions of a guest
+//! over a space.
 //!
 //! The crate offers nothing: it holds the tests that need all layers.
 #![tactic(auto)]
 
 #[cfg(test)]
+mod accesses;
+#[cfg(test)]
+mod caps;
+#[cfg(test)]
+mod causes;
+#[cfg(test)]
 mod cut_lines;
 #[cfg(test)]
 mod first_path;
 #[cfg(test)]
+mod guests;
+#[cfg(test)]
 mod images;
+#[cfg(test)]
+mod jumps;
+#[cfg(test)]
+mod loops;
+#[cfg(test)]
+mod rows;

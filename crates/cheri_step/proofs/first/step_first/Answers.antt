@@ -1,5 +1,5 @@
 use Rattle.std.proofs.Common.{rules, sym}
-use Rattle.cheri_step.specs.Effect.{first_effect}
+use Rattle.cheri_step.specs.First.{first_effect}
 use Rattle.cheri_step.proofs.first.step_first.Goals as goal
 
 pub returns-in-Ok-clause-effect : goal.returns-in-Ok-clause-effect
