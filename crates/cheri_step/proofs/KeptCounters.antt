@@ -31,7 +31,7 @@ pub record IsCounter (region : ℕ) (pcc : Cap) : Type 0 where
 -- PCC at the next instruction.
 
 -- below 2^64 the sum doesn't wrap
-next-is : (pcc : Cap) → address_of pcc.bits + 4 < 2 ^ 64 → next_pcc pcc ≡ with_address pcc (address_of pcc.bits + 4)
+pub next-is : (pcc : Cap) → address_of pcc.bits + 4 < 2 ^ 64 → next_pcc pcc ≡ with_address pcc (address_of pcc.bits + 4)
 next-is pcc fits = ap (with_address pcc) (mod-eq_of_lt fits)
 
 -- where its four bytes lie in its bounds PCC goes on

@@ -3,6 +3,7 @@ pub mod Works
 pub mod Accessed
 pub mod Fetched
 pub mod KeptByEffects
+pub mod KeptRights
 pub mod AlikeEffects
 pub mod FaultPlans
 pub mod LeftByFaults

@@ -1,27 +1,31 @@
 -- A process that may run may run after an instruction.
-use Rattle.std.proofs.Common.{◌≡◌, ℕ, ◌<◌, List, Option, Some, None, Result, Ok, Err, IsTrue, refl, arith}
+use Rattle.std.proofs.Common.{◌≡◌, ℕ, ◌<◌, ◌^◌, List, Option, Some, None, Result, Ok, Err, IsTrue, refl, arith}
 use Rattle.std.proofs.lemmas.List.Elements.{All-from_get_or}
 use Rattle.cap_format.specs.Numbers.{most_regions}
 use Rattle.cap_format.specs.declared.cap.Cap.{Cap}
-use Rattle.cap_format.specs.Made.{null}
+use Rattle.cap_format.specs.Made.{null, from_int}
 use Rattle.cap_format.specs.Pattern.{address_of}
 use Rattle.cap_format.specs.Rights.{holds}
 use Rattle.machine_types.specs.declared.cause.Cause.{Cause}
 use Rattle.machine_types.specs.declared.touches.Note.{Note}
 use Rattle.machine_types.specs.Held.{IsHeld}
+use Rattle.machine_types.specs.Registers.{with_register}
 use Rattle.riscv_decode.specs.declared.instr.Instr.{Instr}
 use Rattle.riscv_decode.specs.Decoded.{decoded}
 use Rattle.contents.specs.Content.{Content}
 use Rattle.contents.specs.Looks.{peek_of}
 use Rattle.contents.specs.Having.{MayHave}
+use Rattle.cheri_step.specs.declared.step.StepEnd.TheVariants.{Call}
+use Rattle.cheri_step.specs.Results.{next_pcc}
 use Rattle.cheri_step.specs.Access.{access_of, code_of}
 use Rattle.cheri_step.specs.Plans.{Plan, ends, asks}
 use Rattle.cheri_step.specs.Effect.{State, state, performed, carried_out, plan_of, fetch_then, effect}
 use Rattle.cheri_step.specs.Laws.{MayRun}
-use Rattle.cheri_step.proofs.KeptRegisters.{AreKept, kept-register}
+use Rattle.cheri_step.proofs.KeptRegisters.{AreKept, kept-register, kept-with, held-integer}
 use Rattle.cheri_step.proofs.KeptCounters.{counter-next}
 use Rattle.cheri_step.proofs.KeptContents.{IsReady, peek-held, access-kept, code-fetched}
 use Rattle.cheri_step.proofs.KeptPlans.{IsKept, IsKeptPlan, planned-kept}
+use Rattle.cheri_step.proofs.LeftByFaults.{effect-left, call-bound}
 
 -- the state of a process of the region
 pub record Runs (region : ℕ) (s : State) : Type 0 where
@@ -95,3 +99,22 @@ effect-runs s region may =
 -- and each granule of its store is what it may have
 pub effect-holds : (s : State) (region page g : ℕ) (cap : Cap) → MayRun region s → peek_of (effect s region).after.content region page g ≡ Some cap → MayHave (effect s region).after.content region cap
 effect-holds s region page g cap may h = (peek-held (effect s region).after.content region page g cap (effect-runs s region may).whole h).inside
+
+-- PCC goes on behind a call, and an integer is put into a register
+past-call : (s t : State) (region n answer : ℕ) → t.pcc ≡ s.pcc → IsTrue (holds s.pcc.bits (address_of s.pcc.bits) 4) → answer < 2 ^ 64 → MayRun region t
+    → MayRun region (state (with_register t.registers n (from_int answer)) (next_pcc t.pcc) t.content)
+past-call s t region n answer same bytes small may =
+    let runs = runs-first t region may in
+    runs-last (state (with_register t.registers n (from_int answer)) (next_pcc t.pcc) t.content) region may.below (record {
+      ready = runs.ready;
+      kept = record {
+        registers_kept = kept-with region t.registers n (from_int answer) runs.kept.registers_kept (held-integer region answer (omega (arith, small)));
+        counter = counter-next region t.pcc may.below runs.kept.counter (rw same bytes);
+      };
+    })
+
+-- so a process may run past a call that is answered
+pub answered-runs : (s : State) (region n answer : ℕ) → MayRun region s → (effect s region).end ≡ Call → answer < 2 ^ 64
+    → MayRun region (state (with_register (effect s region).after.registers n (from_int answer)) (next_pcc (effect s region).after.pcc) (effect s region).after.content)
+answered-runs s region n answer may e small =
+    past-call s (effect s region).after region n answer (effect-left s region (λ next. absurd (cc))).pcc (call-bound s region e) small (effect-runs s region may)

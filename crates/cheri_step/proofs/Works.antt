@@ -17,7 +17,7 @@ use Rattle.riscv_decode.specs.declared.instr.Instr.TheVariants as instr
 use Rattle.riscv_decode.specs.Table.{IsFrom, IsSigned12, IsInRange}
 use Rattle.riscv_decode.specs.Decoded.{decoded}
 use Rattle.contents.specs.Content.{Content}
-use Rattle.cheri_step.specs.declared.memory.MemoryOp.TheVariants.{Load}
+use Rattle.cheri_step.specs.declared.memory.MemoryOp.TheVariants.{Load, Store}
 use Rattle.cheri_step.specs.declared.step.Worked.{Worked}
 use Rattle.cheri_step.specs.Access.{access_of}
 use Rattle.cheri_step.specs.Held.{is_access}
@@ -34,6 +34,16 @@ pub load-work : (r r' : List Cap) (pcc pcc' : Cap) (region word : ℕ) (c : Cont
 load-work r r' pcc pcc' region word c op n s imm authority address accessed w stands row from at is left made =
     rw (row, sym from, sym at, sym is, made) (record { worked = refl; registers_are = refl; pcc_is = refl; content = left })
 
+-- a store, from what its parts came to
+pub store-work : (r : List Cap) (pcc pcc' : Cap) (region word : ℕ) (c : Content) (op : StoreOp) (s t : ℕ) (imm : ℤ) (authority : Cap) (address : ℕ) (value : Cap) (accessed : Result (Cap × Note) Cause) (w : Worked) (stands : Content → Type 0)
+    → decoded word ≡ Some (instr.Store op s t imm) → authority ≡ register r s → address ≡ displaced authority imm → value ≡ register r t
+    → accessed ≡ (access_of c region authority address (Store op value)).answer → stands (access_of c region authority address (Store op value)).after
+    → performed (state r pcc c) (λ _. r) (access_of c region authority address (Store op value)).after accessed
+    ≡ record { end = w.end; after = state r pcc' (access_of c region authority address (Store op value)).after; touched = w.touched }
+    → HasWork (work_of (state r pcc c) region word) w r pcc' stands
+store-work r pcc pcc' region word c op s t imm authority address value accessed w stands row from at stored is left made =
+    rw (row, sym from, sym at, sym stored, sym is, made) (record { worked = refl; registers_are = refl; pcc_is = refl; content = left })
+
 -- an immediate of 12 bits has 32
 pub small-fits : (imm : ℤ) → IsSigned12 imm → to_z w32 (of_z w32 imm) ≡ imm
 small-fits (pos n) range = to_z-of_z w32 (pos n) (let below = range.1 in omega (arith, ints, below))
@@ -48,7 +58,11 @@ branch-fits (negsuc n) range = to_z-of_z w32 (negsuc n) (let from = range.0 in o
 pub load-fits : (i : Instr) (op : LoadOp) (n s : ℕ) (imm : ℤ) → IsInRange i → i ≡ instr.Load op n s imm → to_z w32 (of_z w32 imm) ≡ imm
 load-fits i op n s imm range is = small-fits imm (subst IsInRange is range).2
 
--- likewise a branch
+-- likewise a store
+pub store-fits : (i : Instr) (op : StoreOp) (s t : ℕ) (imm : ℤ) → IsInRange i → i ≡ instr.Store op s t imm → to_z w32 (of_z w32 imm) ≡ imm
+store-fits i op s t imm range is = small-fits imm (subst IsInRange is range).2
+
+-- and a branch
 pub taken-fits : (i : Instr) (op : BranchOp) (s t : ℕ) (imm : ℤ) → IsInRange i → i ≡ instr.Branch op s t imm → to_z w32 (of_z w32 imm) ≡ imm
 taken-fits i op s t imm range is = branch-fits imm (subst IsInRange is range).2
 

@@ -4,6 +4,8 @@ use Rattle.cap_format.specs.Numbers.{region_bytes}
 use Rattle.cap_format.specs.declared.cap.Cap.{Cap}
 use Rattle.cap_format.specs.Pattern.{address_of, kind_of, base_of, top_of}
 use Rattle.cap_format.specs.Region.{region_start}
+use Rattle.cap_format.specs.Rights.{holds}
+use Rattle.cap_format.specs.Code.{IsCode}
 use Rattle.machine_types.specs.Held.{MayHold}
 use Rattle.machine_types.specs.declared.cause.Cause.{Cause}
 use Rattle.machine_types.specs.declared.touches.Note.{Note}
@@ -42,7 +44,8 @@ pub record MayStandAt (cap : Cap) (address : ℕ) : Type 0 where
   pub from : base_of cap.bits ≤ℤ pos address
   pub to : pos address ≤ℤ top_of cap.bits
 
--- PCC may go on: it may stand at the next instruction, whose address doesn't wrap.
+-- PCC may go on: it is code, its four bytes lie in its bounds, and the address of the next instruction doesn't wrap.
 pub record MayGoOn (pcc : Cap) : Type 0 where
-  pub next : MayStandAt pcc (address_of pcc.bits + 4)
+  pub code : IsCode pcc
+  pub held : IsTrue (holds pcc.bits (address_of pcc.bits) 4)
   pub fits : address_of pcc.bits + 4 < 2 ^ 64

@@ -3,7 +3,7 @@ use Rattle.std.specs.Prelude.{ℕ, ◌≡◌, ◌≢◌, ◌<◌, ◌+◌, ◌^�
 use Rattle.cap_format.specs.Numbers.{most_regions, permit_load_capability}
 use Rattle.cap_format.specs.declared.cap.Cap.{Cap}
 use Rattle.cap_format.specs.Pattern.{address_of, kind_of}
-use Rattle.cap_format.specs.Made.{with_address}
+use Rattle.cap_format.specs.Made.{from_int, with_address}
 use Rattle.cap_format.specs.Rights.{allows, holds}
 use Rattle.machine_types.specs.declared.cause.Cause.{Cause}
 use Rattle.machine_types.specs.declared.cause.Cause.TheVariants.{CodeBounds, CodePage, NoFrame}
@@ -18,6 +18,7 @@ use Rattle.riscv_decode.specs.declared.instr.OneOp.{OneOp}
 use Rattle.riscv_decode.specs.declared.instr.LoadOp.{LoadOp}
 use Rattle.riscv_decode.specs.declared.instr.LoadOp.TheVariants as load
 use Rattle.riscv_decode.specs.Decoded.{decoded}
+use Rattle.machine_types.specs.Registers.{with_register}
 use Rattle.contents.specs.Content.{Content}
 use Rattle.contents.specs.Accesses.{untouched, page_of_place}
 use Rattle.contents.specs.Looks.{peek_of, rights_of}
@@ -35,11 +36,17 @@ use Rattle.cheri_step.specs.Access.{place_in, access_of, code_of}
 use Rattle.cheri_step.specs.Plans.{Demand, asks, loaded, link, unsealed}
 use Rattle.cheri_step.specs.Effect.{State, state, plan_of, Effect, effect, CanStep}
 
--- An instruction leaves the stores of all other regions, the rule and the number of frames; and no region gets or loses a store.
+-- each page has the rights that it had, and the same pages are there
+abbrev pub HasSameRights : Content → Content → Type 0
+HasSameRights before after = (region page : ℕ) → rights_of after region page ≡ rights_of before region page
+
+-- An instruction leaves the stores of all other regions, the rule and the number of frames; no region gets or loses a store; and no
+-- instruction gives or takes a page or changes its rights.
 pub record EffectsLeaveOthers : Type 0 where
   pub others : (s : State) (region : ℕ) → OthersStay region s.content (effect s region).after.content
   pub setting : (s : State) (region : ℕ) → HasSameSetting s.content (effect s region).after.content
   pub regions : (s : State) (region : ℕ) → HasSameRegions s.content (effect s region).after.content
+  pub pages : (s : State) (region : ℕ) → HasSameRights s.content (effect s region).after.content
 
 -- Two effects are one, but for what their contents have of other regions.
 pub record AreAlikeEffects (region : ℕ) (e f : Effect) : Type 0 where
@@ -59,10 +66,12 @@ pub record MayRun (region : ℕ) (s : State) : Type 0 where
   pub steps : CanStep region s.registers s.pcc s.content
 
 -- A process that may run may run after an instruction: the content stays whole, PCC stays code, and PCC, each register and each
--- granule of its store are what it may have.
+-- granule of its store are what it may have. So it may past a call that answers an integer in a register.
 pub record EffectsKeepRunning : Type 0 where
   pub runs : (s : State) (region : ℕ) → MayRun region s → MayRun region (effect s region).after
   pub store : (s : State) (region page g : ℕ) (cap : Cap) → MayRun region s → peek_of (effect s region).after.content region page g ≡ Some cap → MayHave (effect s region).after.content region cap
+  pub answered : (s : State) (region n answer : ℕ) → MayRun region s → (effect s region).end ≡ Call → answer < 2 ^ 64
+      → MayRun region (state (with_register (effect s region).after.registers n (from_int answer)) (next_pcc (effect s region).after.pcc) (effect s region).after.content)
 
 -- registers, PCC and every store are as before
 pub record IsLeft (s t : State) : Type 0 where

@@ -1,6 +1,4 @@
-pub mod Words
 pub mod Results
-pub mod First
 pub mod Tests
 pub mod Access
 pub mod Held

@@ -1,7 +1,11 @@
 // Jumps, and PCC after an instruction.
-ghost use Rattle.std.specs.Prelude.{◌≡◌, ◌<◌, List};
+ghost use Rattle.std.specs.Prelude.{◌≡◌, ℕ, ◌+◌, ◌<◌, ◌^◌, IsTrue, List};
 ghost use Rattle.cap_format.specs.declared.cap.Cap.{Cap};
+ghost use Rattle.cap_format.specs.Pattern.{address_of};
+ghost use Rattle.cap_format.specs.Region.{IsInside};
+ghost use Rattle.cap_format.specs.Rights.{holds};
 ghost use Rattle.cap_format.specs.Made.{with_address};
+ghost use Rattle.cap_format.specs.Code.{IsCode};
 ghost use Rattle.cheri_step.specs.Held.{MayStandAt, MayGoOn};
 ghost use Rattle.cheri_step.specs.Results.{next_pcc};
 ghost use Rattle.cheri_step.specs.Tests.{tests_of_target, tests_of_jump, passed};
@@ -12,10 +16,18 @@ use cap_format::{Cap, EXECUTE};
 use int_step::operand;
 use machine_types::{Cause, Regs};
 
-/// PCC at the next instruction, 4 bytes on. It may go on there.
-pub fn pcc_after(pcc: Cap) -> Cap
-    requires { MayGoOn pcc }
-    ensures { result ≡ next_pcc pcc }
+/// PCC at the next instruction, 4 bytes on. Its four bytes here lie in its bounds, and the address does not wrap.
+///
+/// It is code there too, inside each region that it is inside of here.
+pub fn next_pcc(pcc: Cap) -> Cap
+    requires code { IsCode pcc }
+    requires held { IsTrue (holds pcc.bits (address_of pcc.bits) 4) }
+    requires fits { address_of pcc.bits + 4 < 2 ^ 64 }
+    ensures is { result ≡ next_pcc pcc }
+    ensures code { IsCode result }
+    ensures inside { (region : ℕ) → IsInside pcc.bits region → IsInside result.bits region }
+    ensures address { address_of result.bits ≡ address_of pcc.bits + 4 }
+    ensures pattern { result.bits < 2 ^ 128 }
 {
     standing_at(pcc, pcc.address().wrapping_add(4))
 }
@@ -43,7 +55,7 @@ pub fn go_on(pcc: &mut Cap) -> StepEnd
     requires { MayGoOn pcc.old }
     ensures { (registers : List Cap) → goes_on registers pcc.old ≡ ends result registers pcc.new }
 {
-    *pcc = pcc_after(*pcc);
+    *pcc = next_pcc(*pcc);
     StepEnd::Next
 }
 
@@ -124,7 +136,7 @@ fn link(pcc: Cap) -> Cap
     requires { MayGoOn pcc }
     ensures { result ≡ link pcc }
 {
-    pcc_after(pcc).seal_entry()
+    next_pcc(pcc).seal_entry()
 }
 
 // The tests of a target.

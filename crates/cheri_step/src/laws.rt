@@ -3,7 +3,7 @@ ghost use Rattle.cheri_step.specs.Laws.{EffectsLeaveOthers, OwnProcessDecides, E
 
 use riscv_decode::words_go_round;
 
-/// An instruction leaves the stores of all other regions.
+/// An instruction leaves the stores of all other regions. It gives or takes no page and changes no page's rights.
 pub fn effects_leave_others()
     ensures { EffectsLeaveOthers }
 {}

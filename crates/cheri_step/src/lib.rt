@@ -5,7 +5,6 @@
 #![tactic(auto)]
 
 mod examples;
-mod first;
 mod jumps;
 mod laws;
 mod memory;
@@ -13,7 +12,7 @@ mod results;
 mod step;
 
 pub use examples::an_instruction_lacks_a_frame;
-pub use first::{FirstEnd, next_pcc, step_first};
+pub use jumps::next_pcc;
 pub use laws::{
     accesses_are_authorized, derivations_narrow, effects_keep_running, effects_leave_others,
     faults_change_nothing, fetches_are_exact, first_failures_decide, frames_are_lacked,

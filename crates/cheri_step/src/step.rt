@@ -14,7 +14,7 @@ ghost use Rattle.cheri_step.specs.Held.{notes_of_access, is_access, MayGoOn};
 ghost use Rattle.cheri_step.specs.Plans.{ends, goes_on, gives, extended_from, loaded, planned};
 ghost use Rattle.cheri_step.specs.Effect.{state, performed, work_of, effect, CanStep, HasWork, HasEffect};
 
-use crate::jumps::{branch, displaced, go_on, jump_by, jump_to, pcc_after};
+use crate::jumps::{branch, displaced, go_on, jump_by, jump_to, next_pcc};
 use crate::memory::{MemoryOp, access, place_in};
 use crate::results::{imm_result, one_result, reg_result, upper_result};
 use cap_format::{Cap, LOAD_CAPABILITY, MOST_REGIONS};
@@ -161,7 +161,7 @@ fn load(
     match accessed {
         Ok((value, note)) => {
             regs.put(rd, loaded(op, authority, value));
-            *pcc = pcc_after(*pcc);
+            *pcc = next_pcc(*pcc);
             touching(note)
         }
         Err(cause) => ended(StepEnd::Fault(cause)),
@@ -177,7 +177,7 @@ fn store(pcc: &mut Cap, accessed: Result<(Cap, Note), Cause>) -> Worked
 {
     match accessed {
         Ok((_, note)) => {
-            *pcc = pcc_after(*pcc);
+            *pcc = next_pcc(*pcc);
             touching(note)
         }
         Err(cause) => ended(StepEnd::Fault(cause)),

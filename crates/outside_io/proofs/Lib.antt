@@ -3,3 +3,4 @@ pub mod TextLemmas
 pub mod PartLemmas
 pub mod AnswerLemmas
 pub mod WriteLemmas
+pub mod MomentLemmas

@@ -1,5 +1,5 @@
 -- Parts that are written in several calls, one after another.
-use Rattle.std.proofs.Common.{◌≡◌, ℕ, List, [], ◌∷◌, ◌++◌, refl, sym, ap, ◌∙◌, arith, subst, Ok, Err, Result, append_assoc, append-nil, IsErrAnd}
+use Rattle.std.proofs.Common.{◌≡◌, ◌≢◌, ℕ, List, [], ◌∷◌, ◌++◌, refl, sym, ap, ◌∙◌, arith, subst, Ok, Err, Result, OnErr, append_assoc, append-nil, IsErrAnd}
 use Rattle.std.proofs.lemmas.Result.{err_from_is_err_and}
 use Rattle.std.proofs.KnownBytes.{Appends-trans, Appends-nil}
 use Rattle.outside_io.specs.Faults.{Rose}
@@ -45,6 +45,7 @@ pub Cut-stop : (ps qs : List Part) (a b : Console) → Cut ps a b → Cut (ps ++
 Cut-stop ps qs a b h = record {
   before = h.before;
   part = h.part;
+  some = h.some;
   after = h.after ++ qs;
   count = h.count;
   list = ap (λ l. l ++ qs) h.list ∙ append_assoc h.before (h.part ∷ h.after) qs;
@@ -57,6 +58,7 @@ pub Cut-then : (ps qs : List Part) (a b c : Console) → Written ps a b → Quie
 Cut-then ps qs a b c g quiet h = record {
   before = ps ++ h.before;
   part = h.part;
+  some = h.some;
   after = h.after;
   count = h.count;
   list = ap (λ l. ps ++ l) h.list ∙ sym (append_assoc ps h.before (h.part ∷ h.after));
@@ -66,19 +68,20 @@ Cut-then ps qs a b c g quiet h = record {
 
 module _ {T E : Type 0} where
   -- a text that is printed to the output is one part
-  pub Prints-out : (text : List ℕ) (o p e : SinkState) (r : Result T E) → PrintsText text o p r → Prints (out_part text ∷ []) (console o e) (console p e) r
-  Prints-out text o p e (Ok x) h = record {
+  pub Prints-out : (text : List ℕ) (o p e : SinkState) (r : Result T E) → OnErr r (text ≢ []) → PrintsText text o p r → Prints (out_part text ∷ []) (console o e) (console p e) r
+  Prints-out text o p e (Ok x) some h = record {
     whole = record { out = rw append-nil h.whole; err = Appends-nil e.written };
     quiet = record { out = h.cause.kept; err = refl };
     cut = tt;
     later = record { out = h.cause.later; err = omega arith };
   }
-  Prints-out text o p e (Err x) h = record {
+  Prints-out text o p e (Err x) some h = record {
     whole = tt;
     quiet = tt;
     cut = record {
       before = [];
       part = out_part text;
+      some = some;
       after = [];
       count = h.part.0;
       list = refl;
@@ -89,19 +92,20 @@ module _ {T E : Type 0} where
   }
 
   -- and so is one that is printed to the errors
-  pub Prints-err : (text : List ℕ) (o e f : SinkState) (r : Result T E) → PrintsText text e f r → Prints (err_part text ∷ []) (console o e) (console o f) r
-  Prints-err text o e f (Ok x) h = record {
+  pub Prints-err : (text : List ℕ) (o e f : SinkState) (r : Result T E) → OnErr r (text ≢ []) → PrintsText text e f r → Prints (err_part text ∷ []) (console o e) (console o f) r
+  Prints-err text o e f (Ok x) some h = record {
     whole = record { err = rw append-nil h.whole; out = Appends-nil o.written };
     quiet = record { err = h.cause.kept; out = refl };
     cut = tt;
     later = record { err = h.cause.later; out = omega arith };
   }
-  Prints-err text o e f (Err x) h = record {
+  Prints-err text o e f (Err x) some h = record {
     whole = tt;
     quiet = tt;
     cut = record {
       before = [];
       part = err_part text;
+      some = some;
       after = [];
       count = h.part.0;
       list = refl;

@@ -4,3 +4,5 @@ pub mod Contents
 pub mod Memory
 pub mod Parts
 pub mod Answers
+pub mod Moments
+pub mod Laws

@@ -1,5 +1,5 @@
 -- What a program writes to its output and its errors, as one list of parts in order.
-use Rattle.std.specs.Prelude.{◌≡◌, ℕ, ◌≤◌, List, [], ◌∷◌, ◌++◌, take, Result, OnOk, OnErr}
+use Rattle.std.specs.Prelude.{◌≡◌, ◌≢◌, ℕ, ◌≤◌, List, [], ◌∷◌, ◌++◌, take, Result, OnOk, OnErr}
 use Rattle.std.specs.Io.KnownBytes.{Appends}
 use Rattle.outside_io.specs.Faults.{Rose}
 use Rattle.outside_io.specs.States.{SinkState, Outside}
@@ -37,6 +37,11 @@ abbrev pub front_of : ℕ → Part → Part
 front_of count (out_part bytes) = out_part (take count bytes)
 front_of count (err_part bytes) = err_part (take count bytes)
 
+-- the part has bytes
+abbrev pub HasBytes : Part → Type 0
+HasBytes (out_part bytes) = bytes ≢ []
+HasBytes (err_part bytes) = bytes ≢ []
+
 -- the count of the part's sink rose
 abbrev pub RoseAt : Part → Console → Console → Type 0
 RoseAt (out_part bytes) old new = Rose old.out.faults new.out.faults
@@ -47,11 +52,12 @@ pub record Written (parts : List Part) (old new : Console) : Type 0 where
   pub out : Appends old.out.written new.out.written (out_bytes parts)
   pub err : Appends old.err.written new.err.written (err_bytes parts)
 
--- One part was cut: all before it are written whole, a prefix of it is written, and nothing after it is.
+-- One part was cut, which has bytes: all before it are written whole, a prefix of it is written, and nothing after it is.
 -- The count of its sink rose.
 pub record Cut (parts : List Part) (old new : Console) : Type 0 where
   pub before : List Part
   pub part : Part
+  pub some : HasBytes part
   pub after : List Part
   pub count : ℕ
   pub list : parts ≡ before ++ part ∷ after

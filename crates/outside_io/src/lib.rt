@@ -7,6 +7,7 @@
 
 mod failures;
 mod files;
+mod laws;
 mod memory_files;
 mod memory_sink;
 mod memory_source;
@@ -14,6 +15,7 @@ mod standard;
 mod streams;
 
 pub use files::{FileRefusal, Files};
+pub use laws::{counts_tell, moments_are_parts};
 pub use memory_files::MemoryFiles;
 pub use memory_sink::MemorySink;
 pub use memory_source::MemorySource;

@@ -1,52 +1,241 @@
 -- From how a call went to what it promises.
-use Rattle.std.proofs.Common.{◌≡◌, ◌≢◌, ℕ, List, Some, None, IfSome, sym, ◌∙◌, subst, arith, inl, inr, ◌⊎◌}
+use Rattle.std.proofs.Common.{◌≡◌, ◌≢◌, ℕ, List, [], Bool, true, false, None, IsSome, Contains, if◌then◌else◌, refl, sym, ap, ◌∙◌, subst, arith, inl, inr, ◌⊎◌}
 use Rattle.std.specs.declared.option.Option.{Option}
-use Rattle.outside_io.specs.States.{Outside}
-use Rattle.outside_io.specs.Parts.{console_of, Written, Cut}
-use Rattle.outside_io.specs.Answers.{write_fault}
-use Rattle.outside_io.proofs.AnswerLemmas.{Ends-other, Ends-cut, Cut-nil}
-use Rattle.ufork_program.specs.Answer.{answer}
-use Rattle.ufork_program.specs.Request.{answer_of, word_at, IsRequestOf, HasFilesCause}
-use Rattle.ufork_program.specs.Headline.{FileFailed, LineCut, IsCutShort, Went}
+use Rattle.outside_io.specs.Faults.{Rose}
+use Rattle.outside_io.specs.States.{NoneRose, SinksStill, SinkRose, CountsBelowLast}
+use Rattle.outside_io.specs.Parts.{console_of, Quiet}
+use Rattle.outside_io.specs.Answers.{memory_wanted, write_fault}
+use Rattle.outside_io.proofs.AnswerLemmas.{Still-not_Rose, SinkRose-at, SinksStill-not_SinkRose, Ends-passed, Cut-nil}
+use Rattle.outside_io.proofs.MomentLemmas.{EndsAt-answer, EndsAt-cut, CutAt-parts}
+use Rattle.machine_types.specs.declared.config.Rule.TheVariants.{Full}
+use Rattle.cap_format.specs.Numbers.{most_frames}
+use Rattle.ufork_program.specs.Numbers.{most_steps}
+use Rattle.ufork_program.specs.Machine.{Machine, start}
+use Rattle.ufork_program.specs.Run.{run_course, run_end}
+use Rattle.ufork_program.specs.Answer.{file_word}
+use Rattle.ufork_program.specs.Request.{course_of, word_at, HasFilesCause}
+use Rattle.ufork_program.specs.Headline.{Call, Left, WentWhole, WasCut, OfCourse, WantedMemory, FileFailed, TellsOfFile, LineCut, CourseCut, Ran, statuses, Promises, Went}
 use Rattle.ufork_program.specs.declared.request.Request.{Request}
 use Rattle.ufork_program.specs.declared.request.Request.TheVariants.{Refused, NoMemory, Run}
 use Rattle.ufork_program.specs.declared.request.CommandRefusal.TheVariants.{Usage, CannotRead, NotBuilt}
+use Rattle.ufork_program.proofs.CourseLemmas.{WentBy, went_by, course-told}
 
--- no answer has the status of a write fault
-pub answer_of-not_fault : (words : List (List ℕ)) (request : Request) → (answer_of words request).status ≢ write_fault
-answer_of-not_fault words (Refused Usage) e = omega arith
-answer_of-not_fault words (Refused (CannotRead place)) e = omega arith
-answer_of-not_fault words (Refused NotBuilt) e = omega arith
-answer_of-not_fault words NoMemory e = omega arith
-answer_of-not_fault words (Run image) e = omega arith
+-- the status of a run says whether its process is live
+abbrev status_if : Bool → ℕ
+status_if live = if live then 8 else 0
 
-module _ (words : List (List ℕ)) (old new : Outside) where
-  -- the status 3 is that of a file that failed
-  failed_by : (request : Request) → (answer_of words request).status ≡ 3 → HasFilesCause words old.files new.files request → Written (answer_of words request).parts (console_of old) (console_of new) → FileFailed words old new
-  failed_by (Refused (CannotRead place)) e h w = record { rose = h.0; name = word_at words place; word = h.1; last = h.2; line = w }
-  failed_by (Refused Usage) e h w = absurd (omega arith)
-  failed_by (Refused NotBuilt) e h w = absurd (omega arith)
-  failed_by NoMemory e h w = absurd (omega arith)
-  failed_by (Run image) e h w = absurd (omega arith)
+same_live : (a b : Bool) → status_if a ≡ status_if b → a ≡ b
+same_live true true e = refl
+same_live true false e = absurd (omega arith)
+same_live false true e = absurd (omega arith)
+same_live false false e = refl
 
-  pub file_failed : (status : ℕ) → Went words old new status → status ≡ 3 → FileFailed words old new
-  file_failed status h e =
-      let whole = Ends-other (answer_of words h.request) old new status h.ends (λ f. omega arith) in
-      failed_by h.request (sym whole.0 ∙ e) h.files_cause whole.1
+-- a status that is neither of the two is none of a run
+status_if-neither : (live : Bool) (status : ℕ) → status ≡ status_if live → status ≢ 0 → status ≢ 8 → ⊥
+status_if-neither true status e done stopped = stopped e
+status_if-neither false status e done stopped = done e
 
-  -- a part of the answer was cut, or the line of a file that had failed
-  cut_by : (contents : List ℕ → Option (List ℕ)) (request : Request) → IsRequestOf words contents request → HasFilesCause words old.files new.files request → Cut (answer_of words request).parts (console_of old) (console_of new)
-      → Cut (answer words contents).parts (console_of old) (console_of new) ⊎ LineCut words old new
-  cut_by contents (Refused (CannotRead place)) seen h w = inr (record { rose = h.0; name = word_at words place; word = h.1; cut = w })
-  cut_by contents (Refused Usage) seen h w = inl (subst (λ a. Cut a.parts (console_of old) (console_of new)) seen w)
-  cut_by contents (Refused NotBuilt) seen h w = inl (subst (λ a. Cut a.parts (console_of old) (console_of new)) seen w)
-  cut_by contents NoMemory seen h w = absurd (Cut-nil w)
-  cut_by contents (Run image) seen h w = inl (subst (λ a. Cut a.parts (console_of old) (console_of new)) seen w)
+-- the machine at the end of the run of an image
+abbrev end_of : List ℕ → Machine
+end_of image = run_end (start Full most_frames image) most_steps
 
-  cut_told : (told : Option (List ℕ → Option (List ℕ))) (request : Request) → IfSome told (λ contents. IsRequestOf words contents request) → HasFilesCause words old.files new.files request → Cut (answer_of words request).parts (console_of old) (console_of new)
-      → IfSome told (λ contents. Cut (answer words contents).parts (console_of old) (console_of new) ⊎ LineCut words old new)
-  cut_told None request seen h w = tt
-  cut_told (Some contents) request seen h w = cut_by contents request seen h w
+-- no course has the status of a write fault
+pub course_of-not_fault : (words : List (List ℕ)) (request : Request) → (course_of words request).status ≢ write_fault
+course_of-not_fault words (Refused Usage) e = omega arith
+course_of-not_fault words (Refused (CannotRead place)) e = omega arith
+course_of-not_fault words (Refused NotBuilt) e = omega arith
+course_of-not_fault words NoMemory e = omega arith
+course_of-not_fault words (Run image) e = status_if-neither (end_of image.items).live write_fault (sym e) (λ d. omega arith) (λ d. omega arith)
 
-  pub cut_short : (status : ℕ) → Went words old new status → status ≡ write_fault → IsCutShort words old new
-  cut_short status h e = cut_told old.files.contents h.request h.seen h.files_cause (Ends-cut (answer_of words h.request) old new status h.ends e (answer_of-not_fault words h.request))
+-- no word is a file word
+none_is_some : {word : Option (List ℕ)} → word ≡ None → IsSome word → ⊥
+none_is_some e some = let h = rw e at some in cc
+
+-- each status is one of those that there are
+known_at : (status found : ℕ) → status ≡ found → Contains statuses found → Contains statuses status
+known_at status found e h = subst (Contains statuses) (sym e) h
+
+module _ (c : Call) where
+  -- where no part was cut, the course of the request went to its end
+  went_whole : (h : Went c) → c.status ≢ write_fault → WentWhole c (course_of c.words h.request)
+  went_whole h other = elim h.ends.ended [
+    | inl w ↦ record { status = w.whole.status_is; written = w.whole.written; left = w.left }
+    | inr w ↦ absurd (other w.status_is)
+  ]
+
+  -- and else a part of it was cut
+  was_cut : (h : Went c) → c.status ≡ write_fault → WasCut c (course_of c.words h.request)
+  was_cut h e = EndsAt-cut (course_of c.words h.request) (Left c) (console_of c.old) (console_of c.new) c.status h.ends e (course_of-not_fault c.words h.request)
+
+  pub sink_failed : Went c → c.status ≡ write_fault → SinkRose c.old c.new
+  sink_failed h e = let cut = was_cut h e in SinkRose-at cut.part c.old c.new cut.rose
+
+  not_fault : Went c → SinksStill c.old c.new → c.status ≢ write_fault
+  not_fault h still e = SinksStill-not_SinkRose c.old c.new still (sink_failed h e)
+
+  -- the file that failed is the file word
+  failed_at : (place : ℕ) → WentBy c (Refused (CannotRead place)) → FileFailed c (word_at c.words place)
+  failed_at place by = record { rose = by.files_cause.0; word = by.files_cause.1; last = by.files_cause.2 }
+
+  tells_of : (place : ℕ) → WentBy c (Refused (CannotRead place)) → WentWhole c (course_of c.words (Refused (CannotRead place))) → TellsOfFile c
+  tells_of place by w = record { name = word_at c.words place; failed = failed_at place by; whole = w }
+
+  -- all of the course was written
+  whole_by : (request : Request) → WentBy c request → WentWhole c (course_of c.words request) → OfCourse c (WentWhole c) ⊎ (WantedMemory c ⊎ TellsOfFile c)
+  whole_by (Refused Usage) by w = inl (course-told c (Refused Usage) (WentWhole c) tt by w)
+  whole_by (Refused (CannotRead place)) by w = inr (inr (tells_of place by w))
+  whole_by (Refused NotBuilt) by w = inl (course-told c (Refused NotBuilt) (WentWhole c) tt by w)
+  whole_by NoMemory by w = inr (inl w)
+  whole_by (Run image) by w = inl (course-told c (Run image) (WentWhole c) tt by w)
+
+  pub whole : Went c → c.status ≢ write_fault → OfCourse c (WentWhole c) ⊎ (WantedMemory c ⊎ TellsOfFile c)
+  whole h other = whole_by h.request (went_by c h) (went_whole h other)
+
+  pub answered : Went c → NoneRose c.old c.new → OfCourse c (WentWhole c) ⊎ WantedMemory c
+  answered h none = elim (whole h (not_fault h none.sinks)) [
+    | inl w ↦ inl w
+    | inr w ↦ elim w [
+      | inl m ↦ inr m
+      | inr t ↦ absurd (Still-not_Rose c.old.files.faults c.new.files.faults none.files t.failed.rose)
+    ]
+  ]
+
+  pub quiet : Went c → c.status ≢ write_fault → Quiet (console_of c.old) (console_of c.new)
+  quiet h other = elim h.ends.ended [
+    | inl w ↦ w.whole.quiet
+    | inr w ↦ absurd (other w.status_is)
+  ]
+
+  -- a part of the course was cut
+  cut_by : (request : Request) → WentBy c request → WasCut c (course_of c.words request) → CourseCut c ⊎ LineCut c
+  cut_by (Refused Usage) by w = inl (record { kept = ap (λ files. files.faults) by.files_cause; cut = course-told c (Refused Usage) (WasCut c) tt by w })
+  cut_by (Refused (CannotRead place)) by w = inr (record { name = word_at c.words place; failed = failed_at place by; cut = w })
+  cut_by (Refused NotBuilt) by w = inl (record { kept = by.files_cause; cut = course-told c (Refused NotBuilt) (WasCut c) tt by w })
+  cut_by NoMemory by w = absurd (Cut-nil (CutAt-parts [] (Left c) (console_of c.old) (console_of c.new) w))
+  cut_by (Run image) by w = inl (record { kept = by.files_cause; cut = course-told c (Run image) (WasCut c) tt by w })
+
+  pub cut_short : Went c → c.status ≡ write_fault → CourseCut c ⊎ LineCut c
+  cut_short h e = cut_by h.request (went_by c h) (was_cut h e)
+
+  -- an image was run whole
+  ran_by : (live : Bool) (request : Request) → WentBy c request → WentWhole c (course_of c.words request) → c.status ≡ status_if live → Ran live c
+  ran_by live (Refused Usage) by w e = absurd (status_if-neither live 2 (sym w.status ∙ e) (λ d. omega arith) (λ d. omega arith))
+  ran_by live (Refused (CannotRead place)) by w e = absurd (status_if-neither live 3 (sym w.status ∙ e) (λ d. omega arith) (λ d. omega arith))
+  ran_by live (Refused NotBuilt) by w e = absurd (status_if-neither live 19 (sym w.status ∙ e) (λ d. omega arith) (λ d. omega arith))
+  ran_by live NoMemory by w e = absurd (status_if-neither live 10 (sym w.status ∙ e) (λ d. omega arith) (λ d. omega arith))
+  ran_by live (Run image) by w e = record {
+    image = image.items;
+    first = by.usable.0;
+    live_is = same_live (end_of image.items).live live (sym w.status ∙ e);
+    course_is = course-told c (Run image) (λ k. k ≡ run_course image.items most_steps) tt by refl;
+    written = w.written;
+    left = w.left;
+  }
+
+  pub ran : (live : Bool) → Went c → c.status ≡ status_if live → Ran live c
+  ran live h e = ran_by live h.request (went_by c h) (went_whole h (λ f. status_if-neither live write_fault (sym f ∙ e) (λ d. omega arith) (λ d. omega arith))) e
+
+  usage_by : (request : Request) → WentBy c request → WentWhole c (course_of c.words request) → c.status ≡ 2 → file_word c.words ≡ None
+  usage_by (Refused Usage) by w e = by.words_cause
+  usage_by (Refused (CannotRead place)) by w e = let s = w.status in absurd (omega arith)
+  usage_by (Refused NotBuilt) by w e = let s = w.status in absurd (omega arith)
+  usage_by NoMemory by w e = let s = w.status in absurd (omega arith)
+  usage_by (Run image) by w e = absurd (status_if-neither (end_of image.items).live 2 (sym e ∙ w.status) (λ d. omega arith) (λ d. omega arith))
+
+  pub usage : Went c → c.status ≡ 2 → file_word c.words ≡ None
+  usage h e = usage_by h.request (went_by c h) (went_whole h (λ f. omega arith)) e
+
+  no_command_by : (request : Request) → WentBy c request → file_word c.words ≡ None → request ≡ Refused Usage
+  no_command_by (Refused Usage) by none = refl
+  no_command_by (Refused (CannotRead place)) by none = absurd (none_is_some none by.words_cause)
+  no_command_by (Refused NotBuilt) by none = absurd (none_is_some none by.words_cause)
+  no_command_by NoMemory by none = absurd (none_is_some none by.words_cause)
+  no_command_by (Run image) by none = absurd (none_is_some none by.words_cause)
+
+  pub no_command : Went c → file_word c.words ≡ None → c.status ≢ write_fault → c.status ≡ 2
+  no_command h none other = (went_whole h other).status ∙ ap (λ q. (course_of c.words q).status) (no_command_by h.request (went_by c h) none)
+
+  pub unasked : Went c → file_word c.words ≡ None → c.new.files ≡ c.old.files
+  unasked h none = subst (HasFilesCause c.words c.old.files c.new.files) (no_command_by h.request (went_by c h) none) h.files_cause
+
+  file_failed_by : (request : Request) → WentBy c request → WentWhole c (course_of c.words request) → c.status ≡ 3 → TellsOfFile c
+  file_failed_by (Refused Usage) by w e = let s = w.status in absurd (omega arith)
+  file_failed_by (Refused (CannotRead place)) by w e = tells_of place by w
+  file_failed_by (Refused NotBuilt) by w e = let s = w.status in absurd (omega arith)
+  file_failed_by NoMemory by w e = let s = w.status in absurd (omega arith)
+  file_failed_by (Run image) by w e = absurd (status_if-neither (end_of image.items).live 3 (sym e ∙ w.status) (λ d. omega arith) (λ d. omega arith))
+
+  pub file_failed : Went c → c.status ≡ 3 → TellsOfFile c
+  file_failed h e = file_failed_by h.request (went_by c h) (went_whole h (λ f. omega arith)) e
+
+  pub sink_passed : Went c → CountsBelowLast c.old → SinkRose c.old c.new → c.status ≡ write_fault
+  sink_passed h below rose = Ends-passed _ c.old c.new c.status (EndsAt-answer _ (Left c) (console_of c.old) (console_of c.new) c.status h.ends) below rose
+
+  file_passed_by : (request : Request) → WentBy c request → WentWhole c (course_of c.words request) → CountsBelowLast c.old → Rose c.old.files.faults c.new.files.faults → c.status ≡ 3
+  file_passed_by (Refused Usage) by w below rose = let kept = ap (λ files. files.faults) by.files_cause in absurd (omega (arith, below.files))
+  file_passed_by (Refused (CannotRead place)) by w below rose = w.status
+  file_passed_by (Refused NotBuilt) by w below rose = absurd (omega (arith, below.files, by.files_cause))
+  file_passed_by NoMemory by w below rose = absurd (omega (arith, below.files, by.files_cause))
+  file_passed_by (Run image) by w below rose = absurd (omega (arith, below.files, by.files_cause))
+
+  pub file_passed : Went c → CountsBelowLast c.old → SinksStill c.old c.new → Rose c.old.files.faults c.new.files.faults → c.status ≡ 3
+  file_passed h below still rose = file_passed_by h.request (went_by c h) (went_whole h (not_fault h still)) below rose
+
+  memory_by : (request : Request) → WentWhole c (course_of c.words request) → c.status ≡ memory_wanted.status → WantedMemory c
+  memory_by (Refused Usage) w e = let s = w.status in absurd (omega arith)
+  memory_by (Refused (CannotRead place)) w e = let s = w.status in absurd (omega arith)
+  memory_by (Refused NotBuilt) w e = let s = w.status in absurd (omega arith)
+  memory_by NoMemory w e = w
+  memory_by (Run image) w e = absurd (status_if-neither (end_of image.items).live 10 (sym e ∙ w.status) (λ d. omega arith) (λ d. omega arith))
+
+  pub memory : Went c → c.status ≡ memory_wanted.status → WantedMemory c
+  memory h e = memory_by h.request (went_whole h (λ f. omega arith)) e
+
+  not_run_by : (request : Request) → WentWhole c (course_of c.words request) → c.status ≢ 0 → c.status ≢ 8 → Left c None
+  not_run_by (Refused refusal) w done stopped = w.left
+  not_run_by NoMemory w done stopped = w.left
+  not_run_by (Run image) w done stopped = absurd (status_if-neither (end_of image.items).live c.status w.status done stopped)
+
+  pub not_run : Went c → c.status ≢ write_fault → c.status ≢ 0 → c.status ≢ 8 → Left c None
+  not_run h other done stopped = not_run_by h.request (went_whole h other) done stopped
+
+  known_run : (live : Bool) → c.status ≡ status_if live → Contains statuses c.status
+  known_run true e = known_at c.status 8 e (4, omega arith, refl)
+  known_run false e = known_at c.status 0 e (0, omega arith, refl)
+
+  known_by : (request : Request) → c.status ≡ (course_of c.words request).status → Contains statuses c.status
+  known_by (Refused Usage) e = known_at c.status 2 e (1, omega arith, refl)
+  known_by (Refused (CannotRead place)) e = known_at c.status 3 e (2, omega arith, refl)
+  known_by (Refused NotBuilt) e = known_at c.status 19 e (6, omega arith, refl)
+  known_by NoMemory e = known_at c.status 10 e (5, omega arith, refl)
+  known_by (Run image) e = known_run (end_of image.items).live e
+
+  pub known : Went c → Contains statuses c.status
+  known h = elim h.ends.ended [
+    | inl w ↦ known_by h.request w.whole.status_is
+    | inr w ↦ known_at c.status 7 w.status_is (3, omega arith, refl)
+  ]
+
+  -- all that is promised
+  pub promises : Went c → Promises c
+  promises h = record {
+    answered = answered h;
+    whole = whole h;
+    quiet = quiet h;
+    cut_short = cut_short h;
+    done = ran false h;
+    stopped = ran true h;
+    usage = usage h;
+    no_command = no_command h;
+    file_failed = file_failed h;
+    sink_failed = sink_failed h;
+    sink_passed = sink_passed h;
+    file_passed = file_passed h;
+    memory_wanted = memory h;
+    not_run = not_run h;
+    known = known h;
+    later = h.ends.later;
+    unasked = unasked h;
+    contents = h.contents_kept;
+    input = h.input_kept;
+  }

@@ -1,7 +1,10 @@
 pub mod Digits
-pub mod RunLemmas
-pub mod CallLemmas
-pub mod StepLemmas
-pub mod PageLemmas
 pub mod RequestLemmas
 pub mod HeadlineLemmas
+pub mod CallLemmas
+pub mod SoundSteps
+pub mod BootLemmas
+pub mod KernelLemmas
+pub mod RunLemmas
+pub mod LeftLemmas
+pub mod CourseLemmas

@@ -1,59 +1,95 @@
 -- The system calls so far, exit and write. After POSIX.1-2024; their numbers and registers are this project's own.
-use Rattle.std.specs.Prelude.{ℕ, ◌+◌, ◌-◌, ◌^◌, ◌%◌, ◌==◌, ◌&&◌, not, Bool, ◌≤◌, ⊤, nat_le, if◌then◌else◌, List, [], take, drop}
-use Rattle.cap_format.specs.Numbers.{first_region, page_bytes, permit_load}
+use Rattle.std.specs.Prelude.{◌≡◌, ℕ, ◌≤◌, ◌+◌, ◌-◌, ◌^◌, ◌%◌, ◌==◌, ◌&&◌, not, Bool, if◌then◌else◌, List, [], Result, Ok, Err}
+use Rattle.cap_format.specs.Numbers.{first_region, region_bytes, permit_load}
 use Rattle.cap_format.specs.declared.cap.Cap.{Cap}
 use Rattle.cap_format.specs.Pattern.{address_of, kind_of}
 use Rattle.cap_format.specs.Rights.{allows, holds}
 use Rattle.machine_types.specs.Registers.{register}
+use Rattle.machine_types.specs.declared.cause.Cause.{Cause}
+use Rattle.machine_types.specs.declared.cause.Cause.TheVariants as cause
+use Rattle.machine_types.specs.Causes.{cause_number}
 use Rattle.machine_types.specs.declared.errno.Errno.{Errno}
 use Rattle.machine_types.specs.declared.errno.Errno.TheVariants.{Ebadf, Efault, Enosys}
 use Rattle.machine_types.specs.Errors.{error_number}
+use Rattle.machine_types.specs.declared.touches.Access.TheVariants.{Read}
+use Rattle.machine_types.specs.declared.touches.Note.{Note}
+use Rattle.machine_types.specs.declared.touches.NoFrame.{NoFrame}
+use Rattle.contents.specs.Content.{Content}
+use Rattle.contents.specs.Transfers.{covers_of, prepare_of, read_bytes_of}
+use Rattle.cheri_step.specs.Access.{place_in}
 use Rattle.ufork_program.specs.declared.calls.Called.{Called}
-use Rattle.ufork_program.specs.declared.calls.Called.TheVariants.{Answered, Exited}
-use Rattle.ufork_program.specs.Numbers.{exit_call, write_call, console_output}
+use Rattle.ufork_program.specs.declared.calls.Called.TheVariants.{Answered, Ended}
+use Rattle.ufork_program.specs.Numbers.{process_region, exit_call, write_call, console_output}
 
--- what a call does: it answers a number and prints a piece, or the process exits with a status
-pub data CallEffect : Type 0 where
-  answers : ℕ → List ℕ → CallEffect
-  exits : ℕ → CallEffect
+-- what came of a call, the piece that it printed, and the content after it
+pub record CallEffect : Type 0 where
+  pub called : Called
+  pub piece : List ℕ
+  pub content : Content
+
+-- a call that answers a number and does nothing else
+abbrev pub answers : Content → ℕ → CallEffect
+answers c value = record { called = Answered value; piece = []; content = c }
+
+-- a refusal is the negative of its error number
+abbrev pub refuses : Content → Errno → CallEffect
+refuses c error = answers c (2 ^ 64 - error_number error)
+
+-- the status of a process that is killed by this cause
+abbrev pub killed_by : Cause → ℕ
+killed_by cause = 256 + cause_number cause
 
 -- the integer of a register
 abbrev pub integer : List Cap → ℕ → ℕ
 integer registers n = address_of (register registers n).bits
 
--- a refusal is the negative of its error number
-abbrev pub refuses : Errno → CallEffect
-refuses error = answers (2 ^ 64 - error_number error) []
+-- the place in the region that a capability points to
+abbrev pub place_of : Cap → ℕ
+place_of cap = place_in process_region (address_of cap.bits)
 
--- Bytes may be read for the caller: the authority is tagged, no entry, may load and holds them, and they lie on the page.
-abbrev pub is_readable : Cap → ℕ → Bool
-is_readable cap count =
-    let address = address_of cap.bits in
-    cap.tag && (not (kind_of cap.bits == 1) && (allows cap.bits permit_load && (holds cap.bits address count
-    && (nat_le first_region address && nat_le (address + count) (first_region + page_bytes)))))
+-- Bytes may be read for the caller: the authority is tagged, no entry, may load and holds them, and each page under them may be
+-- read.
+abbrev pub is_readable : Content → Cap → ℕ → Bool
+is_readable c cap count =
+    cap.tag && (not (kind_of cap.bits == 1) && (allows cap.bits permit_load && (holds cap.bits (address_of cap.bits) count
+    && covers_of c process_region (place_of cap) count Read)))
+
+-- the bytes are printed after the touches, or the process is killed for want of a frame
+abbrev pub printed : ℕ → ℕ → Content → Result (List Note) NoFrame → CallEffect
+printed at count after (Ok notes) = record { called = Answered count; piece = read_bytes_of after process_region at count; content = after }
+printed at count after (Err refused) = record { called = Ended (killed_by cause.NoFrame); piece = []; content = after }
+
+-- the touches of the pages under the bytes, and then the bytes
+abbrev pub sent : Content → ℕ → ℕ → CallEffect
+sent c at count = let o = prepare_of c process_region at count Read in printed at count o.after o.answer
 
 -- write(x10, c11, x12): the descriptor is for writing, a count of 0 is answered, and the bytes may be read, in this order
-abbrev pub written : List Cap → List ℕ → CallEffect
-written registers page =
+abbrev pub written : List Cap → Content → CallEffect
+written registers c =
     let cap = register registers 11 in
     let count = integer registers 12 in
     if integer registers 10 == console_output
-    then (if count == 0 then answers 0 []
-    else (if is_readable cap count then answers count (take count (drop (address_of cap.bits - first_region) page)) else refuses Efault))
-    else refuses Ebadf
+    then (if count == 0 then answers c 0
+    else (if is_readable c cap count then sent c (place_of cap) count else refuses c Efault))
+    else refuses c Ebadf
+
+-- exit(x10)
+abbrev pub exited : List Cap → Content → CallEffect
+exited registers c = record { called = Ended (integer registers 10 % 256); piece = []; content = c }
 
 -- The call whose number is in x17. Another number is no call.
-unfoldable pub call_effect : List Cap → List ℕ → CallEffect
-call_effect registers page =
-    if integer registers 17 == exit_call then exits (integer registers 10 % 256)
-    else (if integer registers 17 == write_call then written registers page else refuses Enosys)
+unfoldable pub call_effect : List Cap → Content → CallEffect
+call_effect registers c =
+    if integer registers 17 == exit_call then exited registers c
+    else (if integer registers 17 == write_call then written registers c else refuses c Enosys)
 
--- the code's account of a call, whose piece is a part of the page
-abbrev pub effect_of : List ℕ → Called → CallEffect
-effect_of page (Answered value start count) = answers value (take count (drop start page))
-effect_of page (Exited status) = exits status
+-- the call came about, over a space that stands for the content after it
+pub record HasCalled (e : CallEffect) (result : Called) (piece : List ℕ) (stands : Content → Type 0) : Type 0 where
+  pub called : result ≡ e.called
+  pub piece_is : piece ≡ e.piece
+  pub content : stands e.content
 
--- the piece lies within the page
-abbrev pub IsOnPage : Called → Type 0
-IsOnPage (Answered value start count) = start + count ≤ page_bytes
-IsOnPage (Exited status) = ⊤
+-- so many bytes from the address of the authority on lie in the region
+pub record IsPlaced (authority : Cap) (count : ℕ) : Type 0 where
+  pub from : first_region ≤ address_of authority.bits
+  pub within : place_of authority + count ≤ region_bytes

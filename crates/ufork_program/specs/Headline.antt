@@ -1,45 +1,151 @@
--- What the top call promises, by its words and what stood outside before and after it.
-use Rattle.std.specs.Prelude.{◌≡◌, ℕ, ◌⊎◌, List, Some, IfSome}
+-- What a call of the program promises.
+use Rattle.std.specs.Prelude.{◌≡◌, ◌≢◌, ℕ, ◌⊎◌, Bool, true, false, IsTrue, List, [], ◌∷◌, Contains, Some, None, IfSome}
+use Rattle.std.specs.declared.option.Option.{Option}
 use Rattle.outside_io.specs.Faults.{Rose}
-use Rattle.outside_io.specs.States.{Outside, NoneRose}
-use Rattle.outside_io.specs.Parts.{console_of, Written, Cut}
-use Rattle.outside_io.specs.Answers.{IsAnswered, Ends}
-use Rattle.ufork_program.specs.Answer.{answer, file_word, cannot_read}
-use Rattle.ufork_program.specs.Request.{answer_of, IsRequestOf, HasWordsCause, HasFilesCause}
+use Rattle.outside_io.specs.States.{Outside, NoneRose, SinksStill, SinkRose, CountsBelowLast}
+use Rattle.outside_io.specs.Parts.{console_of, Written, Quiet, Later}
+use Rattle.outside_io.specs.Answers.{memory_wanted, write_fault}
+use Rattle.outside_io.specs.Moments.{Course, parts_of, CutAt, EndsAt}
+use Rattle.stores.specs.declared.board.Board.{Board}
+use Rattle.stores.specs.Boards.{IsEmpty, Stands}
+use Rattle.cap_format.specs.Numbers.{most_frames}
+use Rattle.machine_types.specs.declared.config.Rule.TheVariants.{Full}
+use Rattle.elf_loader.specs.FirstImage.{is_first_image}
+use Rattle.ufork_program.specs.Numbers.{most_steps}
+use Rattle.ufork_program.specs.Machine.{Machine, start}
+use Rattle.ufork_program.specs.Run.{run_course, run_end}
+use Rattle.ufork_program.specs.Answer.{course, file_word, cannot_read, refused}
+use Rattle.ufork_program.specs.Request.{course_of, IsUsable, IsRequestOf, HasWordsCause, HasFilesCause}
 use Rattle.ufork_program.specs.declared.request.Request.{Request}
 
--- Where no count rose, the status is that of the answer, and the output and the errors hold what they held followed by
--- its parts; or memory was wanted, and nothing was written.
-abbrev pub IsAnswer : List (List ℕ) → Outside → Outside → ℕ → Type 0
-IsAnswer words old new status =
-    IfSome old.files.contents (λ contents. NoneRose old new → IsAnswered (answer words contents) (console_of old) (console_of new) status)
+-- A call of the program: its words, what stood outside before and after it, the board that it was handed and the one that it
+-- gives back, and the status.
+pub record Call : Type 0 where
+  pub words : List (List ℕ)
+  pub old : Outside
+  pub new : Outside
+  pub given : Board
+  pub left : Board
+  pub status : ℕ
 
--- the count of files rose, the file word is the name that failed last, and its line alone was written
-pub record FileFailed (words : List (List ℕ)) (old new : Outside) : Type 0 where
-  pub rose : Rose old.files.faults new.files.faults
+abbrev pub call : List (List ℕ) → Outside → Outside → Board → Board → ℕ → Call
+call words old new given left status = record { words = words; old = old; new = new; given = given; left = left; status = status }
+
+-- The board that was handed over comes back as it was, and is empty, where no machine stands; and else one that stands for the
+-- machine's stores.
+abbrev pub IsLeftOn : Board → Board → Option Machine → Type 0
+IsLeftOn given left None = (left ≡ given) × IsEmpty left
+IsLeftOn given left (Some m) = Stands left m.content
+
+-- what the call left stands for this
+abbrev pub Left : Call → Option Machine → Type 0
+Left call = IsLeftOn call.given call.left
+
+-- the sinks hold what they held, followed by the parts of this course
+abbrev pub HasWritten : Call → Course (Option Machine) → Type 0
+HasWritten call c = Written (parts_of c.moments) (console_of call.old) (console_of call.new)
+
+-- the status is that of the course, its parts are written, and the board is that of its end
+pub record WentWhole (call : Call) (c : Course (Option Machine)) : Type 0 where
+  pub status : call.status ≡ c.status
+  pub written : HasWritten call c
+  pub left : Left call c.end
+
+-- a part of the course was cut, and the board is that of the moment
+abbrev pub WasCut : Call → Course (Option Machine) → Type 0
+WasCut call c = CutAt c.moments (Left call) (console_of call.old) (console_of call.new)
+
+-- A fact of the course for the contents of the files: for those that are told, and for some where none are.
+pub record OfCourse (call : Call) (P : Course (Option Machine) → Type 0) : Type 0 where
+  pub contents : List ℕ → Option (List ℕ)
+  pub told : IfSome call.old.files.contents (λ told. contents ≡ told)
+  pub holds : P (course call.words contents)
+
+-- memory was wanted, and nothing was written or run
+abbrev pub WantedMemory : Call → Type 0
+WantedMemory call = WentWhole call (refused memory_wanted)
+
+-- the count of files rose, and the file word is the name that failed last
+pub record FileFailed (call : Call) (name : List ℕ) : Type 0 where
+  pub rose : Rose call.old.files.faults call.new.files.faults
+  pub word : file_word call.words ≡ Some name
+  pub last : call.new.files.failed_last ≡ Some name
+
+-- a file failed, its line alone was written, and nothing was run
+pub record TellsOfFile (call : Call) : Type 0 where
   pub name : List ℕ
-  pub word : file_word words ≡ Some name
-  pub last : new.files.failed_last ≡ Some name
-  pub line : Written (cannot_read name).parts (console_of old) (console_of new)
+  pub failed : FileFailed call name
+  pub whole : WentWhole call (refused (cannot_read name))
 
--- a file failed first, and then its line was cut
-pub record LineCut (words : List (List ℕ)) (old new : Outside) : Type 0 where
-  pub rose : Rose old.files.faults new.files.faults
+-- a file failed, and then its line was cut
+pub record LineCut (call : Call) : Type 0 where
   pub name : List ℕ
-  pub word : file_word words ≡ Some name
-  pub cut : Cut (cannot_read name).parts (console_of old) (console_of new)
+  pub failed : FileFailed call name
+  pub cut : WasCut call (refused (cannot_read name))
 
--- One part of the answer was cut; or a file had failed first, and the line that says so was.
-abbrev pub IsCutShort : List (List ℕ) → Outside → Outside → Type 0
-IsCutShort words old new =
-    IfSome old.files.contents (λ contents. Cut (answer words contents).parts (console_of old) (console_of new) ⊎ LineCut words old new)
+-- no file failed, and a part of the course was cut
+pub record CourseCut (call : Call) : Type 0 where
+  pub kept : call.new.files.faults ≡ call.old.files.faults
+  pub cut : OfCourse call (WasCut call)
+
+-- A first image was run: its process is live after the most steps, or it ended by then. Its parts are written, and the board
+-- stands for the machine there.
+pub record Ran (live : Bool) (call : Call) : Type 0 where
+  pub image : List ℕ
+  pub first : IsTrue (is_first_image image)
+  pub live_is : (run_end (start Full most_frames image) most_steps).live ≡ live
+  pub course_is : OfCourse call (λ c. c ≡ run_course image most_steps)
+  pub written : HasWritten call (run_course image most_steps)
+  pub left : Stands call.left (run_end (start Full most_frames image) most_steps).content
+
+-- the statuses that there are
+abbrev pub statuses : List ℕ
+statuses = 0 ∷ 2 ∷ 3 ∷ write_fault ∷ 8 ∷ memory_wanted.status ∷ 19 ∷ []
+
+-- What the call promises.
+pub record Promises (call : Call) : Type 0 where
+  -- Where no count rose, the status, the bytes and the board are those of the course; or memory was wanted.
+  pub answered : NoneRose call.old call.new → OfCourse call (WentWhole call) ⊎ WantedMemory call
+  -- Where no write failed, they are those of the course, memory was wanted, or a file failed; and no sink met a fault.
+  pub whole : call.status ≢ write_fault → OfCourse call (WentWhole call) ⊎ (WantedMemory call ⊎ TellsOfFile call)
+  pub quiet : call.status ≢ write_fault → Quiet (console_of call.old) (console_of call.new)
+  -- With 7 one part was cut: all before it are written whole, a prefix of it is written, and nothing after it is. The board is that
+  -- of the moment: it stands for the machine after the step whose part was cut, or at the run's end where that was the last line,
+  -- and it is empty where it was the line of a refusal. Where a file had failed first, it was that line.
+  pub cut_short : call.status ≡ write_fault → CourseCut call ⊎ LineCut call
+  -- 0 comes only where the process ended, 8 only where it is live after the most steps.
+  pub done : call.status ≡ 0 → Ran false call
+  pub stopped : call.status ≡ 8 → Ran true call
+  -- 2 comes exactly where the words are no command, but for a failing sink.
+  pub usage : call.status ≡ 2 → file_word call.words ≡ None
+  pub no_command : file_word call.words ≡ None → call.status ≢ write_fault → call.status ≡ 2
+  -- 3 comes only where the file failed, and names it.
+  pub file_failed : call.status ≡ 3 → TellsOfFile call
+  -- 7 comes only where a sink failed.
+  pub sink_failed : call.status ≡ write_fault → SinkRose call.old call.new
+  -- Where a count rose, and all stood below their last values, the status is that of the fault.
+  pub sink_passed : CountsBelowLast call.old → SinkRose call.old call.new → call.status ≡ write_fault
+  pub file_passed : CountsBelowLast call.old → SinksStill call.old call.new → Rose call.old.files.faults call.new.files.faults → call.status ≡ 3
+  -- With 10 nothing was written.
+  pub memory_wanted : call.status ≡ memory_wanted.status → WantedMemory call
+  -- With every other status nothing was run, and the board is empty.
+  pub not_run : call.status ≢ write_fault → call.status ≢ 0 → call.status ≢ 8 → Left call None
+  -- There are no further statuses.
+  pub known : Contains statuses call.status
+  -- No count of a sink falls. No file is asked for where the words are no command, no content changes, and the input is left as it
+  -- was.
+  pub later : Later (console_of call.old) (console_of call.new)
+  pub unasked : file_word call.words ≡ None → call.new.files ≡ call.old.files
+  pub contents : call.new.files.contents ≡ call.old.files.contents
+  pub input : call.new.input ≡ call.old.input
 
 -- how a call went, from which all that it promises follows
-pub record Went (words : List (List ℕ)) (old new : Outside) (status : ℕ) : Type 0 where
+pub record Went (call : Call) : Type 0 where
   pub request : Request
-  pub words_cause : HasWordsCause words request
-  pub seen : IfSome old.files.contents (λ contents. IsRequestOf words contents request)
-  pub files_cause : HasFilesCause words old.files new.files request
-  pub contents_kept : new.files.contents ≡ old.files.contents
-  pub input_kept : new.input ≡ old.input
-  pub ends : Ends (answer_of words request) (console_of old) (console_of new) status
+  pub usable : IsUsable call.words request
+  pub words_cause : HasWordsCause call.words request
+  pub seen : IfSome call.old.files.contents (λ contents. IsRequestOf call.words contents request)
+  pub files_cause : HasFilesCause call.words call.old.files call.new.files request
+  pub contents_kept : call.new.files.contents ≡ call.old.files.contents
+  pub input_kept : call.new.input ≡ call.old.input
+  pub ends : EndsAt (course_of call.words request) (Left call) (console_of call.old) (console_of call.new) call.status

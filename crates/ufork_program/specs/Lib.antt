@@ -1,10 +1,11 @@
 pub mod Numbers
 pub mod Lines
-pub mod Page
 pub mod Machine
 pub mod Calls
 pub mod Steps
 pub mod Run
+pub mod Kernel
 pub mod Answer
 pub mod Request
 pub mod Headline
+pub mod Laws

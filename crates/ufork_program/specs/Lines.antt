@@ -9,6 +9,10 @@ exit_line id status = codes "exit " ++ (decimal id ++ (codes " " ++ (decimal sta
 abbrev pub done_line : ℕ → List ℕ
 done_line steps = codes "done " ++ (decimal steps ++ codes "\n")
 
+-- a process is live after so many steps, and no more are made
+abbrev pub stopped_line : ℕ → List ℕ
+stopped_line steps = codes "stopped " ++ (decimal steps ++ codes "\n")
+
 -- the words aren't a command
 abbrev pub usage_line : List ℕ
 usage_line = codes "ufork: usage\n"

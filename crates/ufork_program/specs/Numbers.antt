@@ -1,5 +1,5 @@
--- The numbers of calls and descriptors, the permissions at the start and the limit of steps, as this project fixes them.
--- The code's constants are these.
+-- The numbers of calls and descriptors, the region, the permissions and the rights at the start, and the limit of steps, as this
+-- project fixes them. The code's constants are these.
 use Rattle.std.specs.Prelude.{ℕ, ◌≡◌}
 use Rattle.ufork_program.specs.declared.TheConstants as code
 use Rattle.ufork_program.specs.declared.calls.TheConstants as calls
@@ -23,9 +23,17 @@ code_permissions = 0x16
 abbrev pub data_permissions : ℕ
 data_permissions = 0x3c
 
--- the most steps of a run so far: one for each of the page's 1024 words, and one that finds no page
+-- the region of process 1
+abbrev pub process_region : ℕ
+process_region = 0
+
+-- the rights of the page of a first image: it may be read and fetched
+abbrev pub image_rights : ℕ
+image_rights = 5
+
+-- the most steps of a run
 abbrev pub most_steps : ℕ
-most_steps = 1025
+most_steps = 20000000
 
 -- each constant of the code is its number
 pub record ConstantsAreFixed : Type 0 where
@@ -34,4 +42,6 @@ pub record ConstantsAreFixed : Type 0 where
   pub output : calls.CONSOLE_OUTPUT ≡ console_output
   pub code_permissions_is : code.CODE_PERMISSIONS ≡ code_permissions
   pub data_permissions_is : code.DATA_PERMISSIONS ≡ data_permissions
+  pub region : code.PROCESS_REGION ≡ process_region
+  pub rights : code.IMAGE_RIGHTS ≡ image_rights
   pub most_steps_is : code.MOST_STEPS ≡ most_steps

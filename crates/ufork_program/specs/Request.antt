@@ -1,11 +1,16 @@
 -- What the program comes to before it writes anything, and why.
-use Rattle.std.specs.Prelude.{◌≡◌, ℕ, ◌<◌, ◌≤◌, List, [], Some, None, IsSome, length, ⊤, slice_index_or}
+use Rattle.std.specs.Prelude.{◌≡◌, ℕ, ◌<◌, ◌≤◌, List, [], Some, None, IsSome, IsTrue, length, ⊤, slice_index_or}
 use Rattle.std.specs.declared.option.Option.{Option}
 use Rattle.outside_io.specs.Faults.{Rose}
 use Rattle.outside_io.specs.States.{FilesState}
 use Rattle.outside_io.specs.Answers.{Answer, memory_wanted}
+use Rattle.outside_io.specs.Moments.{Course}
 use Rattle.elf_loader.specs.Numbers.{header_bytes, first_image_bytes}
-use Rattle.ufork_program.specs.Answer.{file_word, usage, cannot_read, not_built, run_answer, answer}
+use Rattle.elf_loader.specs.FirstImage.{is_first_image}
+use Rattle.ufork_program.specs.Numbers.{most_steps}
+use Rattle.ufork_program.specs.Machine.{Machine}
+use Rattle.ufork_program.specs.Run.{run_course}
+use Rattle.ufork_program.specs.Answer.{file_word, usage, cannot_read, not_built, refused, course}
 use Rattle.ufork_program.specs.declared.request.Request.{Request}
 use Rattle.ufork_program.specs.declared.request.Request.TheVariants.{Refused, NoMemory, Run}
 use Rattle.ufork_program.specs.declared.request.CommandRefusal.{CommandRefusal}
@@ -21,19 +26,19 @@ refusal_of words Usage = usage
 refusal_of words (CannotRead place) = cannot_read (word_at words place)
 refusal_of words NotBuilt = not_built
 
--- what is answered from there
-abbrev pub answer_of : List (List ℕ) → Request → Answer
-answer_of words (Refused refusal) = refusal_of words refusal
-answer_of words NoMemory = memory_wanted
-answer_of words (Run image) = run_answer image.items
+-- the course from there
+abbrev pub course_of : List (List ℕ) → Request → Course (Option Machine)
+course_of words (Refused refusal) = refused (refusal_of words refusal)
+course_of words NoMemory = refused memory_wanted
+course_of words (Run image) = run_course image.items most_steps
 
 -- It is what these contents lead to, but for a file that failed and for want of memory.
 abbrev pub IsRequestOf : List (List ℕ) → (List ℕ → Option (List ℕ)) → Request → Type 0
-IsRequestOf words contents (Refused Usage) = usage ≡ answer words contents
+IsRequestOf words contents (Refused Usage) = refused usage ≡ course words contents
 IsRequestOf words contents (Refused (CannotRead place)) = ⊤
-IsRequestOf words contents (Refused NotBuilt) = not_built ≡ answer words contents
+IsRequestOf words contents (Refused NotBuilt) = refused not_built ≡ course words contents
 IsRequestOf words contents NoMemory = ⊤
-IsRequestOf words contents (Run image) = run_answer image.items ≡ answer words contents
+IsRequestOf words contents (Run image) = run_course image.items most_steps ≡ course words contents
 
 -- a usage fault comes exactly where the words are no command
 abbrev pub HasWordsCause : List (List ℕ) → Request → Type 0
@@ -52,10 +57,10 @@ HasFilesCause words old new (Refused NotBuilt) = new.faults ≡ old.faults
 HasFilesCause words old new NoMemory = new.faults ≡ old.faults
 HasFilesCause words old new (Run image) = new.faults ≡ old.faults
 
--- a place is one of the words, and an image that is run has headers and at most one page
+-- a place is one of the words, and what is run is a first image
 abbrev pub IsUsable : List (List ℕ) → Request → Type 0
 IsUsable words (Refused (CannotRead place)) = place < length words
 IsUsable words (Refused Usage) = ⊤
 IsUsable words (Refused NotBuilt) = ⊤
 IsUsable words NoMemory = ⊤
-IsUsable words (Run image) = (header_bytes ≤ length image.items) × (length image.items ≤ first_image_bytes)
+IsUsable words (Run image) = IsTrue (is_first_image image.items) × (header_bytes ≤ length image.items) × (length image.items ≤ first_image_bytes)

@@ -1,50 +1,68 @@
 -- One step of the machine.
-use Rattle.std.specs.Prelude.{◌≡◌, ℕ, ◌+◌, ◌≤◌, ⊤, false, List, [], ◌∷◌, take, drop, Some, None}
+use Rattle.std.specs.Prelude.{◌≡◌, ℕ, ◌+◌, true, false, not, is_some, List, [], ◌∷◌, Some, None}
 use Rattle.std.specs.declared.option.Option.{Option}
 use Rattle.outside_io.specs.Parts.{Part, out_part, err_part}
-use Rattle.cap_format.specs.Numbers.{page_bytes}
 use Rattle.cap_format.specs.Made.{from_int}
-use Rattle.cheri_step.specs.declared.first.FirstEnd.{FirstEnd}
-use Rattle.cheri_step.specs.declared.first.FirstEnd.TheVariants.{Next, Call, Fault}
-use Rattle.machine_types.specs.Causes.{cause_number}
+use Rattle.cap_format.specs.declared.cap.Cap.{Cap}
 use Rattle.machine_types.specs.Registers.{with_register}
-use Rattle.cheri_step.specs.First.{FirstEffect, first_effect}
+use Rattle.contents.specs.Content.{Content}
+use Rattle.contents.specs.Conditions.{HasNoStore}
+use Rattle.contents.specs.Regions.{end_of}
+use Rattle.contents.specs.Agreeing.{HaveSameStores}
+use Rattle.cheri_step.specs.declared.step.StepEnd.{StepEnd}
+use Rattle.cheri_step.specs.declared.step.StepEnd.TheVariants.{Next, Call, Fault}
 use Rattle.cheri_step.specs.Results.{next_pcc}
+use Rattle.cheri_step.specs.Effect.{State, state, effect}
+use Rattle.ufork_program.specs.Numbers.{process_region}
 use Rattle.ufork_program.specs.Lines.{exit_line}
-use Rattle.ufork_program.specs.Machine.{Machine}
-use Rattle.ufork_program.specs.Calls.{CallEffect, answers, exits, call_effect}
-use Rattle.ufork_program.specs.declared.machine.Event.{Event}
-use Rattle.ufork_program.specs.declared.machine.Event.TheVariants.{Quiet, Printed, Ended}
+use Rattle.ufork_program.specs.Machine.{Machine, IsSound}
+use Rattle.ufork_program.specs.declared.calls.Called.{Called}
+use Rattle.ufork_program.specs.declared.calls.Called.TheVariants.{Answered, Ended}
+use Rattle.ufork_program.specs.Calls.{call_effect, killed_by}
 
--- the machine after a step, the piece that it printed, and the status with which the process ended
+-- what the process has after a step, the piece that it printed, and the status with which it ended
+pub record Work : Type 0 where
+  pub after : State
+  pub piece : List ℕ
+  pub ended : Option ℕ
+
+-- a process that ends loses its store, and the members of its pages leave their classes
+abbrev pub ends_with : State → Content → List ℕ → ℕ → Work
+ends_with s content piece status = record { after = state s.registers s.pcc (end_of content process_region); piece = piece; ended = Some status }
+
+-- PCC moves past a call that answers, in x10
+abbrev pub after_call : State → Content → List ℕ → Called → Work
+after_call s content piece (Answered value) = record { after = state (with_register s.registers 10 (from_int value)) (next_pcc s.pcc) content; piece = piece; ended = None }
+after_call s content piece (Ended status) = ends_with s content piece status
+
+abbrev pub called : State → Work
+called s = let e = call_effect s.registers s.content in after_call s e.content e.piece e.called
+
+-- An ecall is a call, and a fault kills the process.
+abbrev pub after_instruction : State → StepEnd → Work
+after_instruction s Next = record { after = s; piece = []; ended = None }
+after_instruction s Call = called s
+after_instruction s (Fault cause) = ends_with s s.content [] (killed_by cause)
+
+-- one instruction, and the call that it may be
+unfoldable pub worked : State → Work
+worked s = let e = effect s process_region in after_instruction e.after e.end
+
+-- the machine after a step, and what the step did for the outside
 pub record Step : Type 0 where
   pub after : Machine
   pub piece : List ℕ
   pub ended : Option ℕ
 
-abbrev pub goes_on : Machine → FirstEffect → Step
-goes_on m effect = record { after = record m { registers = effect.registers; pcc = effect.pcc; steps = m.steps + 1 }; piece = []; ended = None }
-
-abbrev pub ends_with : Machine → ℕ → Step
-ends_with m status = record { after = record m { live = false; steps = m.steps + 1 }; piece = []; ended = Some status }
-
--- PCC moves past the call, which answers in x10
-abbrev pub after_call : Machine → CallEffect → Step
-after_call m (answers value piece) = record {
-  after = record m { registers = with_register m.registers 10 (from_int value); pcc = next_pcc m.pcc; steps = m.steps + 1 };
-  piece = piece;
-  ended = None;
+abbrev pub step_with : Machine → Work → Step
+step_with m w = record {
+  after = record { registers = w.after.registers; pcc = w.after.pcc; content = w.after.content; live = not (is_some w.ended); steps = m.steps + 1 };
+  piece = w.piece;
+  ended = w.ended;
 }
-after_call m (exits status) = ends_with m status
 
--- A fault kills the process with the status 256 plus its cause.
-abbrev pub after_instruction : Machine → FirstEffect → FirstEnd → Step
-after_instruction m effect Next = goes_on m effect
-after_instruction m effect Call = after_call m (call_effect m.registers m.page)
-after_instruction m effect (Fault cause) = ends_with m (256 + cause_number cause)
-
-unfoldable pub step_of : Machine → Step
-step_of m = let effect = first_effect m.registers m.pcc m.page in after_instruction m effect effect.end
+abbrev pub step_of : Machine → Step
+step_of m = step_with m (worked (state m.registers m.pcc m.content))
 
 -- the line of a process that ended, if one did
 abbrev pub ended_line : Option ℕ → List ℕ
@@ -55,14 +73,19 @@ ended_line (Some status) = exit_line 1 status
 abbrev pub step_parts : Machine → List Part
 step_parts m = out_part (step_of m).piece ∷ err_part (ended_line (step_of m).ended) ∷ []
 
--- the code's account of a step
-abbrev pub IsEventOf : Machine → Event → Type 0
-IsEventOf m Quiet = ((step_of m).piece ≡ []) × ((step_of m).ended ≡ None)
-IsEventOf m (Printed start count) = ((step_of m).piece ≡ take count (drop start m.page)) × ((step_of m).ended ≡ None)
-IsEventOf m (Ended status) = ((step_of m).piece ≡ []) × ((step_of m).ended ≡ Some status)
+-- the work came about, over a space that stands for the content after it
+pub record HasWorked (w : Work) (ended : Option ℕ) (registers : List Cap) (pcc : Cap) (piece : List ℕ) (stands : Content → Type 0) : Type 0 where
+  pub ended_is : ended ≡ w.ended
+  pub registers_are : registers ≡ w.after.registers
+  pub pcc_is : pcc ≡ w.after.pcc
+  pub piece_is : piece ≡ w.piece
+  pub content : stands w.after.content
 
--- the piece lies within the page
-abbrev pub IsWithinPage : Event → Type 0
-IsWithinPage Quiet = ⊤
-IsWithinPage (Printed start count) = start + count ≤ page_bytes
-IsWithinPage (Ended status) = ⊤
+-- A step of a live process keeps what stands while it is live. A process that ends is not live, and its region has no store.
+pub record StepsStaySound : Type 0 where
+  pub sound : (m : Machine) → m.live ≡ true → IsSound m → IsSound (step_of m).after
+  pub gone : (m : Machine) (status : ℕ) → (step_of m).ended ≡ Some status → ((step_of m).after.live ≡ false) × HasNoStore process_region (step_of m).after.content
+
+-- a call leaves every store, before the process ends by it
+abbrev pub CallsLeaveStores : Type 0
+CallsLeaveStores = (registers : List Cap) (c : Content) → HaveSameStores c (call_effect registers c).content

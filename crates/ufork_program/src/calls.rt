@@ -1,9 +1,21 @@
 // The system calls.
-ghost use Rattle.std.specs.Prelude.{◌≡◌, ◌<◌, ◌+◌, ◌&&◌, nat_le, List, ℕ, length};
-ghost use Rattle.ufork_program.specs.Calls.{is_readable, refuses, written, call_effect, effect_of, IsOnPage};
+ghost use Rattle.std.specs.Prelude.{◌≡◌, ◌≤◌, ◌+◌, [], IsTrue};
+ghost use Rattle.cap_format.specs.Pattern.{address_of};
+ghost use Rattle.cap_format.specs.Region.{IsInside};
+ghost use Rattle.machine_types.specs.Registers.{AreInside};
+ghost use Rattle.machine_types.specs.declared.touches.Access.TheVariants.{Read};
+ghost use Rattle.contents.specs.Content.{Content};
+ghost use Rattle.contents.specs.Conditions.{Covers};
+ghost use Rattle.stores.specs.Known.{StandsFor, Any};
+ghost use Rattle.ufork_program.specs.Machine.{HasOnePage};
+ghost use Rattle.ufork_program.specs.Calls.{is_readable, refuses, sent, written, call_effect, place_of, killed_by, HasCalled, IsPlaced};
 
-use cap_format::{Cap, FIRST_REGION, LOAD, PAGE_BYTES};
-use machine_types::{Errno, Regs};
+use crate::PROCESS_REGION;
+use crate::piece::Piece;
+use cap_format::{Cap, FIRST_REGION, LOAD, REGION_BYTES};
+use contents::covers_each_byte;
+use machine_types::{Access, Cause, Errno, Regs};
+use stores::{MOST_TRANSFER, Stores};
 
 /// The numbers of the calls.
 const EXIT: u64 = 1;
@@ -13,95 +25,115 @@ const WRITE: u64 = 8;
 /// The descriptor of the console's output.
 const CONSOLE_OUTPUT: u64 = 1;
 
-/// What a call does.
+/// What came of a call.
 #[derive(Clone, Copy, Debug, PartialEq, Eq)]
 pub enum Called {
-    /// It answers a number in x10, and prints the `count` bytes of the page from `start` on.
-    Answered {
-        value: u64,
-        start: usize,
-        count: usize,
-    },
-    /// The process exits with this status.
-    Exited {
-        status: u32,
-    },
+    /// It answers a number in x10.
+    Answered { value: u64 },
+    /// The process ends with this status.
+    Ended { status: u32 },
 }
 
 // A refusal is the negative of the number of its error.
 fn refused(error: Errno) -> Called
-    ensures is { (page : List ℕ) → effect_of page result ≡ refuses error }
-    ensures on_page { IsOnPage result }
+    ensures { (c : Content) → (refuses c error).called ≡ result }
 {
     Called::Answered {
         value: 0u64.wrapping_sub(u64::from(error.number())),
-        start: 0,
-        count: 0,
     }
 }
 
-// Whether so many bytes from the address of the authority may be read for the caller.
-fn is_readable(authority: Cap, count: u64) -> bool
-    ensures { result ≡ is_readable authority count }
+// The place in the region that a capability points to, which lies inside.
+fn place_of(cap: Cap) -> u64
+    requires { FIRST_REGION ≤ address_of cap.bits }
+    ensures { result ≡ place_of cap }
 {
-    let address = authority.address();
+    cap.address() - FIRST_REGION
+}
+
+// Whether so many bytes from the address of the authority on may be read for the caller.
+fn is_readable<S: Stores>(space: &S, authority: Cap, count: u64) -> bool
+    requires inside { IsTrue authority.tag → IsInside authority.bits PROCESS_REGION }
+    requires some { ∥ StandsFor S.stands_for space.now Any ∥₁ }
+    ensures is { (c : Content) → S.stands_for space.now c → result ≡ is_readable c authority count }
+    ensures placed { IsTrue result → IsPlaced authority count }
+    ensures covered { IsTrue result → ∥ StandsFor S.stands_for space.now (Covers PROCESS_REGION (place_of authority) count Read) ∥₁ }
+{
     authority.tag
         && !authority.is_entry()
         && authority.allows(LOAD)
-        && authority.holds(address, count)
-        && is_on_page(address, count)
+        && authority.holds(authority.address(), count)
+        && space.covers(PROCESS_REGION, place_of(authority), count, Access::Read)
 }
 
-// Whether so many bytes from the address lie on the page.
-fn is_on_page(address: u64, count: u64) -> bool
-    ensures { result ≡ (nat_le FIRST_REGION address && nat_le (address + count) (FIRST_REGION + PAGE_BYTES)) }
+// Prints bytes that may be read, after the touches of their pages.
+fn send<S: Stores>(space: &mut S, at: u64, count: usize, piece: &mut Piece) -> Called
+    requires least { 1 ≤ count }
+    requires most { count ≤ MOST_TRANSFER }
+    requires within { at + count ≤ REGION_BYTES }
+    requires covered { ∥ StandsFor S.stands_for space.old (Covers PROCESS_REGION at count Read) ∥₁ }
+    requires empty { piece.old ≡ [] }
+    ensures { (c : Content) → S.stands_for space.old c → HasCalled (sent c at count) result piece.new (S.stands_for space.new) }
 {
-    FIRST_REGION <= address
-        && u128::from(address) + u128::from(count) <= u128::from(FIRST_REGION) + PAGE_BYTES as u128
+    match space.prepare(PROCESS_REGION, at, count, Access::Read) {
+        Ok(_) => {
+            piece.fill(space, at, count);
+            Called::Answered {
+                value: count as u64,
+            }
+        }
+        Err(_) => Called::Ended {
+            status: killed_by(Cause::NoFrame),
+        },
+    }
+}
+
+/// The status of a process that is killed by this cause.
+pub fn killed_by(cause: Cause) -> u32
+    ensures { result ≡ killed_by cause }
+{
+    256 + cause.number()
 }
 
 // write(x10, c11, x12)
-fn write_call(regs: &Regs, page: &[u8]) -> Called
-    requires { length page.now ≡ PAGE_BYTES }
-    ensures is { effect_of page.now result ≡ written regs.now page.now }
-    ensures on_page { IsOnPage result }
+fn write_call<S: Stores>(regs: &Regs, space: &mut S, piece: &mut Piece) -> Called
+    requires inside { AreInside regs.now PROCESS_REGION }
+    requires page { ∥ StandsFor S.stands_for space.old HasOnePage ∥₁ }
+    requires empty { piece.old ≡ [] }
+    ensures { (c : Content) → S.stands_for space.old c → HasCalled (written regs.now c) result piece.new (S.stands_for space.new) }
 {
+    covers_each_byte();
     if regs.get(10).address() != CONSOLE_OUTPUT {
         return refused(Errno::Ebadf);
     }
     let authority = regs.get(11);
     let count = regs.get(12).address();
     if count == 0 {
-        return Called::Answered {
-            value: 0,
-            start: 0,
-            count: 0,
-        };
+        return Called::Answered { value: 0 };
     }
-    if !is_readable(authority, count) {
+    if !is_readable(space, authority, count) {
         return refused(Errno::Efault);
     }
-    Called::Answered {
-        value: count,
-        start: (authority.address() - FIRST_REGION) as usize,
-        count: count as usize,
-    }
+    send(space, place_of(authority), count as usize, piece)
 }
 
-/// What the call does whose number is in x17.
-pub fn call(regs: &Regs, page: &[u8]) -> Called
-    requires { length page.now ≡ PAGE_BYTES }
-    ensures is { effect_of page.now result ≡ call_effect regs.now page.now }
-    ensures on_page { IsOnPage result }
+/// Does the call whose number is in x17, with an empty piece.
+///
+/// The process has one page, so no more than [`MOST_TRANSFER`] bytes can be read for it.
+pub fn call<S: Stores>(regs: &Regs, space: &mut S, piece: &mut Piece) -> Called
+    requires inside { AreInside regs.now PROCESS_REGION }
+    requires page { ∥ StandsFor S.stands_for space.old HasOnePage ∥₁ }
+    requires empty { piece.old ≡ [] }
+    ensures { (c : Content) → S.stands_for space.old c → HasCalled (call_effect regs.now c) result piece.new (S.stands_for space.new) }
 {
     let number = regs.get(17).address();
     if number == EXIT {
-        return Called::Exited {
+        return Called::Ended {
             status: (regs.get(10).address() % 256) as u32,
         };
     }
     if number == WRITE {
-        return write_call(regs, page);
+        return write_call(regs, space, piece);
     }
     refused(Errno::Enosys)
 }

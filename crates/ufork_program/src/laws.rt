@@ -1,7 +1,47 @@
-// A law of the numbers: a function that states it, does nothing and takes nothing.
+// Laws of the numbers and of runs: each is a function that states one, does nothing and takes nothing.
 ghost use Rattle.ufork_program.specs.Numbers.{ConstantsAreFixed};
+ghost use Rattle.ufork_program.specs.Steps.{StepsStaySound, CallsLeaveStores};
+ghost use Rattle.ufork_program.specs.Run.{RunsEndAtTheLeast};
+ghost use Rattle.ufork_program.specs.Laws.{CallsAreExact, CoursesAreExact};
+
+use cheri_step::{effects_keep_running, effects_leave_others};
+use contents::{calls_keep_whole, other_stores_stay, regions_are_kept};
 
 /// The constants of this crate are the numbers that the definitions fix.
 pub fn constants_are_fixed()
     ensures { ConstantsAreFixed }
 {}
+
+/// A run ends after the least number of steps at which the process isn't live, or at the limit. While the parts of a step are
+/// written, the machine after it stands.
+pub fn runs_end_at_the_least()
+    ensures { RunsEndAtTheLeast }
+{}
+
+/// A call leaves every store, before the process ends by it.
+pub fn calls_leave_stores()
+    ensures { CallsLeaveStores }
+{
+    other_stores_stay();
+}
+
+/// Each call in its order of tests, with the numbers of its refusals.
+pub fn calls_are_exact()
+    ensures { CallsAreExact }
+{}
+
+/// What the program does, by its words and the file.
+pub fn courses_are_exact()
+    ensures { CoursesAreExact }
+{}
+
+/// While the process is live, a step leaves it one that may run, with no page but the first. One that ends has no store.
+pub fn steps_stay_sound()
+    ensures { StepsStaySound }
+{
+    regions_are_kept();
+    effects_keep_running();
+    effects_leave_others();
+    calls_leave_stores();
+    calls_keep_whole();
+}

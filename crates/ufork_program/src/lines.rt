@@ -1,7 +1,7 @@
 // Lines, made on the stack.
-ghost use Rattle.std.specs.Prelude.{◌≡◌, ◌+◌, ◌≤◌, ◌^◌, ◌<◌, ◌++◌, codes, length, decimal};
+ghost use Rattle.std.specs.Prelude.{◌≡◌, ◌+◌, ◌≤◌, ◌^◌, ◌<◌, ◌++◌, if◌then◌else◌, codes, length, decimal};
 ghost use Rattle.outside_io.specs.States.{PrintsText};
-ghost use Rattle.ufork_program.specs.Lines.{exit_line, done_line, cannot_read_line};
+ghost use Rattle.ufork_program.specs.Lines.{exit_line, done_line, stopped_line, cannot_read_line};
 
 use itoa::write_digits;
 use outside_io::{Failed, Sink};
@@ -78,8 +78,8 @@ pub fn write_exit<E: Sink>(id: u64, status: u64, err: &mut E) -> Result<(), Fail
     err.write(line.text())
 }
 
-/// Writes `done STEPS`, by one write.
-pub fn write_done<E: Sink>(steps: u64, err: &mut E) -> Result<(), Failed>
+// Writes `done STEPS`, by one write.
+fn write_done<E: Sink>(steps: u64, err: &mut E) -> Result<(), Failed>
     ensures { PrintsText (done_line steps) (E.state err.old) (E.state err.new) result }
 {
     let mut line = Line::new();
@@ -87,6 +87,28 @@ pub fn write_done<E: Sink>(steps: u64, err: &mut E) -> Result<(), Failed>
     line.put_number(steps);
     line.put(b"done ");
     err.write(line.text())
+}
+
+// Writes `stopped STEPS`, by one write.
+fn write_stopped<E: Sink>(steps: u64, err: &mut E) -> Result<(), Failed>
+    ensures { PrintsText (stopped_line steps) (E.state err.old) (E.state err.new) result }
+{
+    let mut line = Line::new();
+    line.put(b"\n");
+    line.put_number(steps);
+    line.put(b"stopped ");
+    err.write(line.text())
+}
+
+/// Writes the last line of a run that made so many steps, by one write: whether its process is live still, or has ended.
+pub fn write_last<E: Sink>(live: bool, steps: u64, err: &mut E) -> Result<(), Failed>
+    ensures { PrintsText (if live then stopped_line steps else done_line steps) (E.state err.old) (E.state err.new) result }
+{
+    if live {
+        write_stopped(steps, err)
+    } else {
+        write_done(steps, err)
+    }
 }
 
 // Writes the name and the end of its line.

@@ -1,23 +1,45 @@
 // The top call.
-ghost use Rattle.std.specs.Prelude.{◌≡◌, ◌↔◌, ◌≤◌, MatchResult, None, [], length, map, string_bytes};
-ghost use Rattle.outside_io.specs.Faults.{Rose};
-ghost use Rattle.outside_io.specs.States.{outside, SinksStill, SinkRose, CountsBelowLast};
-ghost use Rattle.outside_io.specs.Parts.{console, console_of, Written};
-ghost use Rattle.outside_io.specs.Answers.{Answers, refusal, write_fault, memory_wanted};
-ghost use Rattle.ufork_program.specs.Answer.{file_word, cannot_read, run_answer};
-ghost use Rattle.ufork_program.specs.Request.{answer_of, IsUsable};
-ghost use Rattle.ufork_program.specs.Headline.{IsAnswer, FileFailed, IsCutShort, Went};
+ghost use Rattle.std.specs.Prelude.{◌≡◌, ◌≢◌, ◌≤◌, [], MatchResult, length, map, string_bytes};
+ghost use Rattle.cap_format.specs.Numbers.{most_frames};
+ghost use Rattle.outside_io.specs.States.{outside};
+ghost use Rattle.outside_io.specs.Parts.{console};
+ghost use Rattle.outside_io.specs.Answers.{Answers, refusal, write_fault};
+ghost use Rattle.outside_io.specs.Moments.{EndsAt};
+ghost use Rattle.stores.specs.Boards.{IsEmpty, made_frames};
+ghost use Rattle.ufork_program.specs.Numbers.{most_steps};
+ghost use Rattle.ufork_program.specs.Run.{run_course};
+ghost use Rattle.ufork_program.specs.Answer.{cannot_read};
+ghost use Rattle.ufork_program.specs.Request.{course_of, refusal_of, IsUsable};
+ghost use Rattle.ufork_program.specs.Headline.{call, IsLeftOn, Went, Promises};
 
-use crate::lines::{write_cannot_read, write_done};
-use crate::machine::FirstMachine;
+use crate::kernel::Kernel;
+use crate::lines::write_cannot_read;
 use crate::request::{CommandRefusal, Request, read_request};
-use crate::run::run_machine;
+use crate::run::print_run;
+use cap_format::MOST_FRAMES;
 use elf_loader::{FIRST_IMAGE_BYTES, HEADER_BYTES};
+use full_space::FullSpace;
 use outside_io::{Failed, Files, Sink, Source};
 use std::alloc::Global;
+use stores::Board;
+
+/// How a call of the program ended.
+#[derive(Drop)]
+pub struct Ended {
+    /// The status with which the program ends.
+    pub status: u8,
+    /// The board that was handed over. It stands for the machine's stores at the end, and is empty where nothing was run.
+    pub board: Board,
+}
 
 // Writes the line of a refusal. The output stays as it was.
-fn refuse<O: Sink, E: Sink>(status: u8, line: &[u8], out: &O, err: &mut E) -> Result<u8, Failed>
+fn write_refusal<O: Sink, E: Sink>(
+    status: u8,
+    line: &[u8],
+    out: &O,
+    err: &mut E,
+) -> Result<u8, Failed>
+    requires some { line.now ≢ [] }
     ensures { Answers (refusal status line.now) (console (O.state out.now) (E.state err.old)) (console (O.state out.now) (E.state err.new)) result }
 {
     err.write(line)?;
@@ -31,38 +53,64 @@ fn refuse_name<O: Sink, E: Sink>(name: &str, out: &O, err: &mut E) -> Result<u8,
     Ok(3)
 }
 
-// Runs an image, and writes how many steps it made.
-fn run_image<O: Sink, E: Sink>(image: &[u8], out: &mut O, err: &mut E) -> Result<u8, Failed>
+// Refuses a command: its line on the errors, and its status.
+fn refuse<O: Sink, E: Sink>(
+    words: &[String],
+    refused: CommandRefusal,
+    out: &O,
+    err: &mut E,
+) -> Result<u8, Failed>
+    requires { IsUsable (map string_bytes words.now) (Request.Refused refused) }
+    ensures { Answers (refusal_of (map string_bytes words.now) refused) (console (O.state out.now) (E.state err.old)) (console (O.state out.now) (E.state err.new)) result }
+{
+    match refused {
+        CommandRefusal::Usage => write_refusal(2, b"ufork: usage\n", out, err),
+        CommandRefusal::CannotRead { place } => refuse_name(words[place].as_str(), out, err),
+        CommandRefusal::NotBuilt => write_refusal(19, b"ufork: not built\n", out, err),
+    }
+}
+
+// Runs an image on an empty board.
+fn run_image<O: Sink, E: Sink>(image: &[u8], board: Board, out: &mut O, err: &mut E) -> Ended
     requires long { HEADER_BYTES ≤ length image.now }
     requires short { length image.now ≤ FIRST_IMAGE_BYTES }
-    ensures { Answers (run_answer image.now) (console (O.state out.old) (E.state err.old)) (console (O.state out.new) (E.state err.new)) result }
+    requires empty { IsEmpty board }
+    requires made { made_frames board ≡ most_frames }
+    ensures { EndsAt (run_course image.now most_steps) (IsLeftOn board result.board)
+        (console (O.state out.old) (E.state err.old)) (console (O.state out.new) (E.state err.new)) result.status }
 {
-    let mut machine = FirstMachine::new(image);
-    run_machine(&mut machine, out, err)?;
-    write_done(machine.steps(), err)?;
-    Ok(0)
+    let mut board = board;
+    board.set_frames(MOST_FRAMES as u32);
+    let mut kernel = Kernel::boot(image, FullSpace::new(board));
+    let status = status_of(print_run(&mut kernel, out, err));
+    Ended {
+        status,
+        board: kernel.into_space().into_board(),
+    }
 }
 
 // Writes what is answered by what was read.
 fn answer_request<O: Sink, E: Sink>(
     words: &[String],
     request: Request,
+    board: Board,
     out: &mut O,
     err: &mut E,
-) -> Result<u8, Failed>
-    requires { IsUsable (map string_bytes words.now) request }
-    ensures { Answers (answer_of (map string_bytes words.now) request) (console (O.state out.old) (E.state err.old)) (console (O.state out.new) (E.state err.new)) result }
+) -> Ended
+    requires usable { IsUsable (map string_bytes words.now) request }
+    requires empty { IsEmpty board }
+    requires made { made_frames board ≡ most_frames }
+    ensures { EndsAt (course_of (map string_bytes words.now) request) (IsLeftOn board result.board)
+        (console (O.state out.old) (E.state err.old)) (console (O.state out.new) (E.state err.new)) result.status }
 {
-    match request {
-        Request::Refused(CommandRefusal::Usage) => refuse(2, b"ufork: usage\n", out, err),
-        Request::Refused(CommandRefusal::CannotRead { place }) => refuse_name(
-            words[place].as_str(),
-            out,
-            err,
-        ),
-        Request::Refused(CommandRefusal::NotBuilt) => refuse(19, b"ufork: not built\n", out, err),
+    let written = match request {
+        Request::Run { image } => return run_image(&image, board, out, err),
         Request::NoMemory => Ok(10),
-        Request::Run { image } => run_image(&image, out, err),
+        Request::Refused(refusal) => refuse(words, refusal, out, err),
+    };
+    Ended {
+        status: status_of(written),
+        board,
     }
 }
 
@@ -84,31 +132,38 @@ fn read_and_write<F: Files, I: Source, O: Sink, E: Sink>(
     input: &I,
     out: &mut O,
     err: &mut E,
-) -> u8
-    ensures { Went (map string_bytes words.now)
+    board: Board,
+) -> Ended
+    requires empty { IsEmpty board }
+    requires made { made_frames board ≡ most_frames }
+    ensures { Went (call (map string_bytes words.now)
         (outside (F.state files.old) (I.state input.now) (O.state out.old) (E.state err.old))
-        (outside (F.state files.new) (I.state input.now) (O.state out.new) (E.state err.new)) result }
+        (outside (F.state files.new) (I.state input.now) (O.state out.new) (E.state err.new)) board result.board result.status) }
 {
     let request = read_request(alloc, words, files);
-    status_of(answer_request(words, request, out, err))
+    answer_request(words, request, board, out, err)
 }
 
-/// Does all that the program does, and gives the status with which it ends.
+/// Does all that the program does, and gives the status with which it ends and the board.
 ///
-/// `words` are those of the command line without the program's name. So far there is one command,
-/// `run NAME`: it runs the first image in the file `NAME`, and writes the console's bytes to `out` and a
-/// line for the end of the process and one for the end of the run to `err`.
+/// `words` are those of the command line without the program's name. So far there is one command, `run NAME`: it runs the first
+/// image in the file `NAME`, writes the console's bytes to `out`, and to `err` a line for the end of the process and one for the
+/// end of the run. A run makes at most 20000000 steps.
+///
+/// `board` is empty and was made with [`MOST_FRAMES`] frames. It comes back as the machine's stores at the end, and empty where
+/// nothing was run.
 ///
 /// | Status | When | What `err` gains |
 /// |---|---|---|
-/// | 0 | otherwise | `exit 1 STATUS` and `done STEPS` |
+/// | 0 | the process ended | `exit 1 STATUS` and `done STEPS` |
 /// | 2 | the words are no command | `ufork: usage` |
 /// | 3 | the file was not read: its count of faults rose | `ufork: cannot read NAME` |
 /// | 7 | a write failed: the count of `out` or of `err` rose | what came before it |
+/// | 8 | the process is live after the most steps | `stopped STEPS` |
 /// | 10 | memory was wanted for the file | nothing |
 /// | 19 | the file is no first image | `ufork: not built` |
 ///
-/// The input is left as it was.
+/// The input is left as it was. Each sentence of the contract is a field of `Promises`, in specs/Headline.antt.
 pub fn ufork<F: Files, I: Source, O: Sink, E: Sink>(
     alloc: Global,
     words: &[String],
@@ -116,49 +171,13 @@ pub fn ufork<F: Files, I: Source, O: Sink, E: Sink>(
     input: &mut I,
     out: &mut O,
     err: &mut E,
-) -> u8
-    // Where no count rose, the status and the bytes are those of the answer, or memory was wanted.
-    ensures answered { IsAnswer (map string_bytes words.now)
+    board: Board,
+) -> Ended
+    requires empty { IsEmpty board }
+    requires made { made_frames board ≡ most_frames }
+    ensures { Promises (call (map string_bytes words.now)
         (outside (F.state files.old) (I.state input.old) (O.state out.old) (E.state err.old))
-        (outside (F.state files.new) (I.state input.new) (O.state out.new) (E.state err.new)) result }
-
-    // 2 comes exactly where the words are no command, but for a failing sink.
-    ensures usage { SinksStill
-        (outside (F.state files.old) (I.state input.old) (O.state out.old) (E.state err.old))
-        (outside (F.state files.new) (I.state input.new) (O.state out.new) (E.state err.new))
-        → ((result ≡ 2) ↔ (file_word (map string_bytes words.now) ≡ None)) }
-
-    // 3 comes only where the file failed, and names it.
-    ensures file_failed { result ≡ 3 → FileFailed (map string_bytes words.now)
-        (outside (F.state files.old) (I.state input.old) (O.state out.old) (E.state err.old))
-        (outside (F.state files.new) (I.state input.new) (O.state out.new) (E.state err.new)) }
-
-    // 7 comes only where a sink failed.
-    ensures sink_failed { result ≡ write_fault → SinkRose
-        (outside (F.state files.old) (I.state input.old) (O.state out.old) (E.state err.old))
-        (outside (F.state files.new) (I.state input.new) (O.state out.new) (E.state err.new)) }
-
-    // Where a count rose, and all stood below their last values, the status is that of the fault.
-    ensures sink_passed { CountsBelowLast (outside (F.state files.old) (I.state input.old) (O.state out.old) (E.state err.old)) → SinkRose
-        (outside (F.state files.old) (I.state input.old) (O.state out.old) (E.state err.old))
-        (outside (F.state files.new) (I.state input.new) (O.state out.new) (E.state err.new)) → result ≡ write_fault }
-    ensures file_passed { CountsBelowLast (outside (F.state files.old) (I.state input.old) (O.state out.old) (E.state err.old)) → SinksStill
-        (outside (F.state files.old) (I.state input.old) (O.state out.old) (E.state err.old))
-        (outside (F.state files.new) (I.state input.new) (O.state out.new) (E.state err.new))
-        → Rose (F.state files.old).faults (F.state files.new).faults → result ≡ 3 }
-
-    // With 7 one part was cut: all before it are written whole, a prefix of it is written, and nothing after it is.
-    ensures cut_short { result ≡ write_fault → IsCutShort (map string_bytes words.now)
-        (outside (F.state files.old) (I.state input.old) (O.state out.old) (E.state err.old))
-        (outside (F.state files.new) (I.state input.new) (O.state out.new) (E.state err.new)) }
-
-    // With 10 nothing was written.
-    ensures memory_wanted { result ≡ memory_wanted.status → Written [] (console (O.state out.old) (E.state err.old)) (console (O.state out.new) (E.state err.new)) }
-
-    // No file is asked for where the words are no command, no content changes, and the input is left as it was.
-    ensures unasked { file_word (map string_bytes words.now) ≡ None → F.state files.new ≡ F.state files.old }
-    ensures contents { (F.state files.new).contents ≡ (F.state files.old).contents }
-    ensures input { I.state input.new ≡ I.state input.old }
+        (outside (F.state files.new) (I.state input.new) (O.state out.new) (E.state err.new)) board result.board result.status) }
 {
-    read_and_write(alloc, words, files, input, out, err)
+    read_and_write(alloc, words, files, input, out, err, board)
 }

@@ -1,12 +1,15 @@
-// Writers that take a part of a line and then no more.
+// Writers that take a part of a piece or of a line and then no more.
+use crate::boards::{Left, left_on};
 use crate::images::{HI, image_of};
+use cap_format::MOST_FRAMES;
 use outside_io::{MemoryFiles, MemorySource, StdSink};
 use std::alloc::Global;
 use std::test::Fail;
-use ufork_program::ufork;
+use stores::Board;
+use ufork_program::{Ended, ufork};
 
-// Runs `hi` with room for so many bytes on the errors, and gives the status.
-fn run_with_room(alloc: Global, room: &mut [u8]) -> Result<u8, Fail> {
+// Runs `hi` with so much room on the output and on the errors.
+fn run_with_room(alloc: Global, out: &mut [u8], err: &mut [u8]) -> Result<Ended, Fail> {
     let mut words = Vec::new(alloc);
     words.push(String::from_str(alloc, "run")?)?;
     words.push(String::from_str(alloc, "hi")?)?;
@@ -14,19 +17,39 @@ fn run_with_room(alloc: Global, room: &mut [u8]) -> Result<u8, Fail> {
     entries.push((String::from_str(alloc, "hi")?, image_of(alloc, &HI)?))?;
     let mut files = MemoryFiles::new(entries, Vec::new(alloc));
     let mut input = MemorySource::new(Vec::new(alloc), 1, Vec::new(alloc));
-    let mut out = StdSink::new(Vec::new(alloc));
-    let mut err = StdSink::new(room);
-    Ok(ufork(alloc, &words, &mut files, &mut input, &mut out, &mut err))
+    let mut out = StdSink::new(out);
+    let mut err = StdSink::new(err);
+    let board = Board::new(alloc, MOST_FRAMES as u32)?;
+    Ok(ufork(
+        alloc, &words, &mut files, &mut input, &mut out, &mut err, board,
+    ))
 }
 
 #[test]
 fn what_is_written_is_a_prefix(rt: HostRuntime) -> Result<(), Fail> {
     let whole = b"exit 1 0\ndone 8\n";
     for count in 0..=16 {
-        let mut room = [0; 16];
-        let status = run_with_room(rt.alloc(), &mut room[..count])?;
-        assert_eq!(rt; status, if count < 16 { 7 } else { 0 });
-        assert_eq!(rt; &room[..count], &whole[..count]);
+        let mut out = [0; 3];
+        let mut err = [0; 16];
+        let ended = run_with_room(rt.alloc(), &mut out, &mut err[..count])?;
+        assert_eq!(rt; ended.status, if count < 16 { 7 } else { 0 });
+        assert_eq!(rt; &out, b"hi\n");
+        assert_eq!(rt; &err[..count], &whole[..count]);
+        assert_eq!(rt; left_on(&ended.board, &HI), Some(Left::Nothing));
+    }
+    Ok(())
+}
+
+#[test]
+fn a_piece_is_cut_before_any_line(rt: HostRuntime) -> Result<(), Fail> {
+    for count in 0..3 {
+        let mut out = [0; 3];
+        let mut err = [0; 16];
+        let ended = run_with_room(rt.alloc(), &mut out[..count], &mut err)?;
+        assert_eq!(rt; ended.status, 7);
+        assert_eq!(rt; &out[..count], &b"hi\n"[..count]);
+        assert_eq!(rt; err, [0; 16]);
+        assert_eq!(rt; left_on(&ended.board, &HI), Some(Left::Page));
     }
     Ok(())
 }

@@ -1,121 +1,27 @@
 // The command `run` on one image of one page.
-use crate::images::{BOUNDS, HI, STOP, UPPER, ZERO, image_of};
-use outside_io::{MemoryFiles, MemorySink, MemorySource};
-use std::alloc::Global;
-use std::process::Abort;
+use crate::boards::Left;
+use crate::images::{BOUNDS, HI, page_of};
+use crate::runs::{Given, RUN, Want, check, check_done};
 use std::test::Fail;
-use ufork_program::ufork;
-
-// What a run is given.
-#[derive(Clone, Copy)]
-struct Given {
-    // parted by single spaces; none where it is empty
-    words: &'static str,
-    file_fails: bool,
-    out_fails: Option<u64>,
-    out_room: usize,
-    err_fails: Option<u64>,
-    err_room: usize,
-}
-
-const RUN: Given = Given {
-    words: "run hi",
-    file_fails: false,
-    out_fails: None,
-    out_room: 100,
-    err_fails: None,
-    err_room: 100,
-};
-
-// What it must give: the status, and what stands on the output and on the errors.
-#[derive(Clone, Copy)]
-struct Row {
-    given: Given,
-    status: u8,
-    out: &'static [u8],
-    err: &'static [u8],
-}
-
-fn calls(alloc: Global, call: Option<u64>) -> Result<Vec<u64>, Fail> {
-    let mut calls = Vec::new(alloc);
-    if let Some(call) = call {
-        calls.push(call)?;
-    }
-    Ok(calls)
-}
-
-fn words(alloc: Global, line: &str) -> Result<Vec<String>, Fail> {
-    let mut words = Vec::new(alloc);
-    if !line.is_empty() {
-        for word in line.split(' ') {
-            words.push(String::from_str(alloc, word)?)?;
-        }
-    }
-    Ok(words)
-}
-
-fn files(alloc: Global, fails: bool) -> Result<MemoryFiles, Fail> {
-    let pages: [(&str, &[u8]); 5] = [
-        ("hi", &HI),
-        ("bounds", &BOUNDS),
-        ("stop", &STOP),
-        ("upper", &UPPER),
-        ("zero", &ZERO),
-    ];
-    let mut entries = Vec::new(alloc);
-    for (name, page) in pages {
-        entries.push((String::from_str(alloc, name)?, image_of(alloc, page)?))?;
-    }
-    entries.push((String::from_str(alloc, "five")?, vec![in alloc; 0_u8; 5]?))?;
-    entries.push((
-        String::from_str(alloc, "long")?,
-        vec![in alloc; 0_u8; 8193]?,
-    ))?;
-    let failing = if fails { Some(0) } else { None };
-    Ok(MemoryFiles::new(entries, calls(alloc, failing)?))
-}
-
-fn check(rt: &(impl Abort + AllocGlobal), row: &Row) -> Result<(), Fail> {
-    let alloc = rt.alloc();
-    let given = row.given;
-    let words = words(alloc, given.words)?;
-    let mut files = files(alloc, given.file_fails)?;
-    let mut input = MemorySource::new(Vec::new(alloc), 1, Vec::new(alloc));
-    let mut out = MemorySink::new(alloc, given.out_room, calls(alloc, given.out_fails)?)?;
-    let mut err = MemorySink::new(alloc, given.err_room, calls(alloc, given.err_fails)?)?;
-    let status = ufork(alloc, &words, &mut files, &mut input, &mut out, &mut err);
-    assert_eq!(rt; status, row.status);
-    assert_eq!(rt; out.bytes(), row.out);
-    assert_eq!(rt; err.bytes(), row.err);
-    Ok(())
-}
 
 const BOTH_LINES: &[u8] = b"exit 1 0\ndone 8\n";
 
 #[test]
 fn an_image_of_one_page_writes_hi(rt: HostRuntime) -> Result<(), Fail> {
-    check(
-        &rt,
-        &Row {
-            given: RUN,
-            status: 0,
-            out: b"hi\n",
-            err: BOTH_LINES,
-        },
-    )
+    check_done(&rt, &HI, b"hi\n", BOTH_LINES)
 }
 
 #[test]
 fn refusals_have_their_lines(rt: HostRuntime) -> Result<(), Fail> {
     let rows: [(&'static str, bool, u8, &'static [u8]); 9] = [
-        ("walk hi", false, 2, b"ufork: usage\n"),
+        ("walk guest", false, 2, b"ufork: usage\n"),
         ("", false, 2, b"ufork: usage\n"),
         ("run", false, 2, b"ufork: usage\n"),
         ("run ", false, 2, b"ufork: usage\n"),
-        ("run -hi", false, 2, b"ufork: usage\n"),
-        ("run hi hi", false, 2, b"ufork: usage\n"),
+        ("run -guest", false, 2, b"ufork: usage\n"),
+        ("run guest guest", false, 2, b"ufork: usage\n"),
         ("run no", false, 3, b"ufork: cannot read no\n"),
-        ("run hi", true, 3, b"ufork: cannot read hi\n"),
+        ("run guest", true, 3, b"ufork: cannot read guest\n"),
         ("run five", false, 19, b"ufork: not built\n"),
     ];
     for (words, file_fails, status, err) in rows {
@@ -124,15 +30,13 @@ fn refusals_have_their_lines(rt: HostRuntime) -> Result<(), Fail> {
             file_fails,
             ..RUN
         };
-        check(
-            &rt,
-            &Row {
-                given,
-                status,
-                out: b"",
-                err,
-            },
-        )?;
+        let want = Want {
+            status,
+            out: b"",
+            err,
+            left: Left::Nothing,
+        };
+        check(&rt, &HI, given, want)?;
     }
     Ok(())
 }
@@ -143,81 +47,68 @@ fn a_file_over_the_limit_is_not_built(rt: HostRuntime) -> Result<(), Fail> {
         words: "run long",
         ..RUN
     };
-    check(
-        &rt,
-        &Row {
-            given,
-            status: 19,
-            out: b"",
-            err: b"ufork: not built\n",
-        },
-    )
+    let want = Want {
+        status: 19,
+        out: b"",
+        err: b"ufork: not built\n",
+        left: Left::Nothing,
+    };
+    check(&rt, &HI, given, want)
 }
 
 #[test]
 fn a_write_past_the_bounds_is_refused(rt: HostRuntime) -> Result<(), Fail> {
-    let given = Given {
-        words: "run bounds",
-        ..RUN
-    };
-    check(
-        &rt,
-        &Row {
-            given,
-            status: 0,
-            out: b"",
-            err: b"exit 1 242\ndone 8\n",
-        },
-    )
+    check_done(&rt, &BOUNDS, b"", b"exit 1 242\ndone 8\n")
 }
 
 #[test]
 fn a_fault_kills_the_process(rt: HostRuntime) -> Result<(), Fail> {
-    let rows: [(&'static str, &'static [u8]); 3] = [
-        ("run zero", b"exit 1 264\ndone 1\n"),
-        ("run stop", b"exit 1 265\ndone 2\n"),
-        ("run upper", b"exit 1 264\ndone 1\n"),
+    let rows: [([u32; 2], &'static [u8]); 4] = [
+        // Words that are no instruction: zero, and csrrw x0, mstatus, x0.
+        ([0, 0], b"exit 1 264\ndone 1\n"),
+        ([0x3000_1073, 0], b"exit 1 264\ndone 1\n"),
+        // fence, and then ebreak.
+        ([0x0ff0_000f, 0x0010_0073], b"exit 1 265\ndone 2\n"),
+        // lui x1, 0, and then a word that is none.
+        ([0x0000_00b7, 0], b"exit 1 264\ndone 2\n"),
     ];
     for (words, err) in rows {
-        let given = Given { words, ..RUN };
-        check(
-            &rt,
-            &Row {
-                given,
-                status: 0,
-                out: b"",
-                err,
-            },
-        )?;
+        check_done(&rt, &page_of(rt.alloc(), &words)?, b"", err)?;
     }
     Ok(())
 }
 
 #[test]
 fn a_sink_that_fails_ends_the_run(rt: HostRuntime) -> Result<(), Fail> {
-    let rows: [(Option<u64>, Option<u64>, u8, &'static [u8], &'static [u8]); 6] = [
-        (Some(0), None, 7, b"", b""),
-        (Some(1), None, 0, b"hi\n", BOTH_LINES),
-        (Some(2), None, 0, b"hi\n", BOTH_LINES),
-        (None, Some(0), 7, b"hi\n", b""),
-        (None, Some(1), 7, b"hi\n", b"exit 1 0\n"),
-        (None, Some(2), 0, b"hi\n", BOTH_LINES),
+    type Row = (
+        Option<u64>,
+        Option<u64>,
+        u8,
+        &'static [u8],
+        &'static [u8],
+        Left,
+    );
+    let rows: [Row; 6] = [
+        (Some(0), None, 7, b"", b"", Left::Page),
+        (Some(1), None, 0, b"hi\n", BOTH_LINES, Left::Nothing),
+        (Some(2), None, 0, b"hi\n", BOTH_LINES, Left::Nothing),
+        (None, Some(0), 7, b"hi\n", b"", Left::Nothing),
+        (None, Some(1), 7, b"hi\n", b"exit 1 0\n", Left::Nothing),
+        (None, Some(2), 0, b"hi\n", BOTH_LINES, Left::Nothing),
     ];
-    for (out_fails, err_fails, status, out, err) in rows {
+    for (out_fails, err_fails, status, out, err, left) in rows {
         let given = Given {
             out_fails,
             err_fails,
             ..RUN
         };
-        check(
-            &rt,
-            &Row {
-                given,
-                status,
-                out,
-                err,
-            },
-        )?;
+        let want = Want {
+            status,
+            out,
+            err,
+            left,
+        };
+        check(&rt, &HI, given, want)?;
     }
     Ok(())
 }
@@ -236,15 +127,13 @@ fn a_refusal_whose_line_is_not_written_is_a_write_fault(rt: HostRuntime) -> Resu
             err_fails: Some(call),
             ..RUN
         };
-        check(
-            &rt,
-            &Row {
-                given,
-                status: 7,
-                out: b"",
-                err,
-            },
-        )?;
+        let want = Want {
+            status: 7,
+            out: b"",
+            err,
+            left: Left::Nothing,
+        };
+        check(&rt, &HI, given, want)?;
     }
     Ok(())
 }
@@ -256,22 +145,22 @@ fn an_output_without_room_holds_no_part_of_a_piece(rt: HostRuntime) -> Result<()
             out_room: room,
             ..RUN
         };
-        let row = if room < 3 {
-            Row {
-                given,
+        let want = if room < 3 {
+            Want {
                 status: 7,
                 out: b"",
                 err: b"",
+                left: Left::Page,
             }
         } else {
-            Row {
-                given,
+            Want {
                 status: 0,
                 out: b"hi\n",
                 err: BOTH_LINES,
+                left: Left::Nothing,
             }
         };
-        check(&rt, &row)?;
+        check(&rt, &HI, given, want)?;
     }
     Ok(())
 }
@@ -288,15 +177,13 @@ fn errors_without_room_hold_whole_lines(rt: HostRuntime) -> Result<(), Fail> {
             9..16 => (7, b"exit 1 0\n"),
             _ => (0, BOTH_LINES),
         };
-        check(
-            &rt,
-            &Row {
-                given,
-                status,
-                out: b"hi\n",
-                err,
-            },
-        )?;
+        let want = Want {
+            status,
+            out: b"hi\n",
+            err,
+            left: Left::Nothing,
+        };
+        check(&rt, &HI, given, want)?;
     }
     Ok(())
 }

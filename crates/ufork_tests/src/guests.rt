@@ -115,8 +115,8 @@ fn is_pcc(cap: Cap) -> bool
     cap.tag && cap.kind() == 0 && cap.allows(EXECUTE) && cap.address() % 4 == 0 && cap.inside(0)
 }
 
-// The words of instructions, each of four bytes, the lowest first.
-fn bytes_of(alloc: Global, code: &[Instr]) -> Result<Vec<u8>, Fail> {
+/// The words of instructions, each of four bytes, the lowest first.
+pub fn bytes_of(alloc: Global, code: &[Instr]) -> Result<Vec<u8>, Fail> {
     let mut bytes = Vec::new(alloc);
     for instr in code {
         let word = encode(instr).ok_or("no word")?;

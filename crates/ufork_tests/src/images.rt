@@ -50,29 +50,25 @@ pub const BOUNDS: [u8; 35] = [
     b'h', b'i', b'\n',
 ];
 
-/// A page that stops at a breakpoint.
-pub const STOP: [u8; 8] = [
-    0x0f, 0x00, 0xf0, 0x0f, // fence
-    0x73, 0x00, 0x10, 0x00, // ebreak
-];
+/// The page of these words, the lowest byte of each first.
+pub fn page_of(alloc: Global, words: &[u32]) -> Result<Vec<u8>, Fail> {
+    let mut page = Vec::new(alloc);
+    for word in words {
+        page.extend_from_slice(&word.to_le_bytes())?;
+    }
+    Ok(page)
+}
 
-/// A page with an instruction that isn't built.
-pub const UPPER: [u8; 4] = [
-    0xb7, 0x00, 0x00, 0x00, // lui x1, 0
-];
-
-/// A page that holds the one word 0.
-pub const ZERO: [u8; 4] = [0; 4];
-
-/// The image of a page of fewer than 256 bytes.
+/// The image of a page of 1 to 4096 bytes.
 pub fn image_of(alloc: Global, page: &[u8]) -> Result<Vec<u8>, Fail> {
     let mut image = vec![in alloc; 0_u8; 4096]?;
     for (place, byte) in HEADERS {
         set(&mut image, place, byte);
     }
-    let size = u8::try_from(page.len()).unwrap_or(0);
-    set(&mut image, 96, size);
-    set(&mut image, 104, size);
+    let [low, high] = u16::try_from(page.len()).unwrap_or(0).to_le_bytes();
+    for (place, byte) in [(96, low), (97, high), (104, low), (105, high)] {
+        set(&mut image, place, byte);
+    }
     image.extend_from_slice(page)?;
     Ok(image)
 }

@@ -1,5 +1,5 @@
-//! Whole runs of the program over memory, and over writers that take a part of a line; and single instructions of a guest
-//! over a space.
+//! Whole runs of the program over memory, and over writers that take a part of a line, with the boards that come back; and single
+//! instructions of a guest over a space.
 //!
 //! The crate offers nothing: it holds the tests that need all layers.
 #![tactic(auto)]
@@ -7,9 +7,13 @@
 #[cfg(test)]
 mod accesses;
 #[cfg(test)]
+mod boards;
+#[cfg(test)]
 mod caps;
 #[cfg(test)]
 mod causes;
+#[cfg(test)]
+mod console;
 #[cfg(test)]
 mod cut_lines;
 #[cfg(test)]
@@ -19,8 +23,16 @@ mod guests;
 #[cfg(test)]
 mod images;
 #[cfg(test)]
+mod instrs;
+#[cfg(test)]
 mod jumps;
+#[cfg(test)]
+mod left_boards;
 #[cfg(test)]
 mod loops;
 #[cfg(test)]
+mod programs;
+#[cfg(test)]
 mod rows;
+#[cfg(test)]
+mod runs;

@@ -8,10 +8,10 @@ use Rattle.ufork_program.proofs.top.refuse_name.Goals as goal
 pub returns-in_err-write_cannot_read : goal.returns-in_err-write_cannot_read
 returns-in_err-write_cannot_read g c =
     Answers-failed _ _ _ _ _ c.from_residual.ensures.1
-    (Prints-stop (err_part (cannot_read_line c.args.name.now) ∷ []) [] _ _ _ _ _ c.from_residual.ensures.1 (Prints-err _ _ _ _ _ c.in_err-write_cannot_read.ensures))
+    (Prints-stop (err_part (cannot_read_line c.args.name.now) ∷ []) [] _ _ _ _ _ c.from_residual.ensures.1 (Prints-err _ _ _ _ _ (λ e. cc) c.in_err-write_cannot_read.ensures))
 
 pub returns : goal.returns
 returns g c = record {
-  prints = Prints-gives _ _ _ _ _ (Prints-err _ _ _ _ _ c.in_ok-write_cannot_read.ensures);
+  prints = Prints-gives _ _ _ _ _ (Prints-err _ _ _ _ _ tt c.in_ok-write_cannot_read.ensures);
   status = refl;
 }

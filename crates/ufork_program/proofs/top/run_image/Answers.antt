@@ -1,32 +1,25 @@
-use Rattle.std.proofs.Common.{◌≡◌, ◌∷◌, [], ◌∙◌, ap, refl}
-use Rattle.outside_io.specs.Parts.{err_part}
-use Rattle.outside_io.proofs.PartLemmas.{Prints-err, Prints-stop, Prints-then, Prints-gives}
-use Rattle.outside_io.proofs.AnswerLemmas.{Answers-failed}
-use Rattle.ufork_program.specs.Lines.{done_line}
+use Rattle.std.proofs.Common.{◌≡◌, subst, arith}
+use Rattle.cap_format.specs.Numbers.{most_frames}
+use Rattle.machine_types.specs.declared.config.Rule.TheVariants.{Full}
+use Rattle.contents.specs.Content.{Content, nothing}
+use Rattle.stores.specs.Boards.{Stands}
+use Rattle.full_space.specs.Full.{FullStands}
+use Rattle.outside_io.proofs.MomentLemmas.{EndsAt-from}
+use Rattle.ufork_program.specs.Numbers.{most_steps}
 use Rattle.ufork_program.specs.Machine.{start}
-use Rattle.ufork_program.specs.Page.{image_page}
-use Rattle.ufork_program.specs.Run.{run_parts, run_end}
+use Rattle.ufork_program.specs.Run.{run_course}
+use Rattle.ufork_program.specs.Kernel.{KernelStands, IsLeftIn}
+use Rattle.ufork_program.specs.Headline.{IsLeftOn}
+use Rattle.ufork_program.proofs.LeftLemmas.{left_on, size_set}
 use Rattle.ufork_program.proofs.top.run_image.Goals as goal
-
-pub returns-in_err-write_done : goal.returns-in_err-write_done
-returns-in_err-write_done g c =
-    let machine = start (image_page c.args.image.now) in
-    let end = run_end machine 1025 in
-    let steps : c.steps.result ≡ end.steps = c.steps.ensures ∙ ap (λ m. m.steps) (c.in_ok-run_machine.ensures.end ∙ ap (λ m. run_end m 1025) c.new-machine.ensures) in
-    Answers-failed _ _ _ _ _ c.from_residual-in_err-write_done.ensures.1
-    (Prints-then (run_parts machine 1025) (err_part (done_line end.steps) ∷ []) _ _ _ _ _
-    (rw c.new-machine.ensures at c.in_ok-run_machine.ensures.prints)
-    (Prints-stop (err_part (done_line end.steps) ∷ []) [] _ _ _ _ _ c.from_residual-in_err-write_done.ensures.1
-    (Prints-err _ _ _ _ _ (rw steps at c.in_err-write_done.ensures))))
 
 pub returns : goal.returns
 returns g c =
-    let machine = start (image_page c.args.image.now) in
-    let end = run_end machine 1025 in
-    let steps : c.steps.result ≡ end.steps = c.steps.ensures ∙ ap (λ m. m.steps) (c.in_ok-run_machine.ensures.end ∙ ap (λ m. run_end m 1025) c.new-machine.ensures) in
-    record {
-      prints = Prints-gives _ _ _ _ _ (Prints-then (run_parts machine 1025) (err_part (done_line end.steps) ∷ []) _ _ _ _ _
-          (rw c.new-machine.ensures at c.in_ok-run_machine.ensures.prints)
-          (Prints-err _ _ _ _ _ (rw steps at c.in_ok-write_done.ensures)));
-      status = refl;
-    }
+    let kernel = c.print_run.new.kernel in
+    let size : c.set_frames.new.self.pool.size ≡ most_frames = size_set c.args.board _ _ c.set_frames.ensures.is in
+    let begun : KernelStands FullStands c.boot-kernel.result (start Full most_frames c.args.image.now) =
+    c.boot-kernel.ensures.stands Full most_frames (omega arith) (subst (λ n. FullStands c.new.result (nothing Full n)) size c.new.ensures) in
+    let stands : (d : Content) → FullStands kernel.space d → Stands c.into_board.result d =
+    subst (λ s. (d : Content) → FullStands s d → Stands c.into_board.result d) c.into_space.ensures c.into_board.ensures.stands in
+    EndsAt-from (run_course c.args.image.now most_steps) (IsLeftIn FullStands kernel) (IsLeftOn c.args.board c.into_board.result) _ _ _ _
+    (left_on kernel c.args.board c.into_board.result stands) (c.print_run.ensures (start Full most_frames c.args.image.now) begun) c.status_of-status.ensures

@@ -1,0 +1,118 @@
+// Runs of the program over memory: what one is given, and what has to come of it.
+use crate::boards::{Left, left_on};
+use crate::images::image_of;
+use cap_format::MOST_FRAMES;
+use outside_io::{MemoryFiles, MemorySink, MemorySource};
+use std::alloc::Global;
+use std::process::Abort;
+use std::test::Fail;
+use stores::Board;
+use ufork_program::ufork;
+
+/// What a run is given besides a page, whose image is the file `guest`. The file `five` has 5 bytes, and `long` 8193.
+#[derive(Clone, Copy)]
+pub struct Given {
+    /// The words, parted by single spaces. There are none where it is empty.
+    pub words: &'static str,
+    /// Whether the first read of a file fails.
+    pub file_fails: bool,
+    /// The write to the output that fails, from 0.
+    pub out_fails: Option<u64>,
+    /// The room of the output.
+    pub out_room: usize,
+    /// The write to the errors that fails, from 0.
+    pub err_fails: Option<u64>,
+    /// The room of the errors.
+    pub err_room: usize,
+}
+
+/// A run of the guest in which nothing fails.
+pub const RUN: Given = Given {
+    words: "run guest",
+    file_fails: false,
+    out_fails: None,
+    out_room: 4096,
+    err_fails: None,
+    err_room: 100,
+};
+
+/// What has to come of a run: the status, what stands on the output and on the errors, and the board.
+#[derive(Clone, Copy)]
+pub struct Want<'a> {
+    pub status: u8,
+    pub out: &'a [u8],
+    pub err: &'a [u8],
+    pub left: Left,
+}
+
+fn calls(alloc: Global, call: Option<u64>) -> Result<Vec<u64>, Fail> {
+    let mut calls = Vec::new(alloc);
+    if let Some(call) = call {
+        calls.push(call)?;
+    }
+    Ok(calls)
+}
+
+fn words(alloc: Global, line: &str) -> Result<Vec<String>, Fail> {
+    let mut words = Vec::new(alloc);
+    if !line.is_empty() {
+        for word in line.split(' ') {
+            words.push(String::from_str(alloc, word)?)?;
+        }
+    }
+    Ok(words)
+}
+
+fn files(alloc: Global, page: &[u8], fails: bool) -> Result<MemoryFiles, Fail> {
+    let contents: [(&str, Vec<u8>); 3] = [
+        ("guest", image_of(alloc, page)?),
+        ("five", vec![in alloc; 0_u8; 5]?),
+        ("long", vec![in alloc; 0_u8; 8193]?),
+    ];
+    let mut entries = Vec::new(alloc);
+    for (name, content) in contents {
+        entries.push((String::from_str(alloc, name)?, content))?;
+    }
+    let failing = if fails { Some(0) } else { None };
+    Ok(MemoryFiles::new(entries, calls(alloc, failing)?))
+}
+
+/// Makes a run.
+pub fn check(
+    rt: &(impl Abort + AllocGlobal),
+    page: &[u8],
+    given: Given,
+    want: Want<'_>,
+) -> Result<(), Fail> {
+    let alloc = rt.alloc();
+    let words = words(alloc, given.words)?;
+    let mut files = files(alloc, page, given.file_fails)?;
+    let mut input = MemorySource::new(Vec::new(alloc), 1, Vec::new(alloc));
+    let mut out = MemorySink::new(alloc, given.out_room, calls(alloc, given.out_fails)?)?;
+    let mut err = MemorySink::new(alloc, given.err_room, calls(alloc, given.err_fails)?)?;
+    let board = Board::new(alloc, MOST_FRAMES as u32)?;
+    let ended = ufork(
+        alloc, &words, &mut files, &mut input, &mut out, &mut err, board,
+    );
+    assert_eq!(rt; ended.status, want.status);
+    assert_eq!(rt; out.bytes(), want.out);
+    assert_eq!(rt; err.bytes(), want.err);
+    assert_eq!(rt; left_on(&ended.board, page), Some(want.left));
+    Ok(())
+}
+
+/// Makes a run in which nothing fails and the process ends.
+pub fn check_done(
+    rt: &(impl Abort + AllocGlobal),
+    page: &[u8],
+    out: &[u8],
+    err: &[u8],
+) -> Result<(), Fail> {
+    let want = Want {
+        status: 0,
+        out,
+        err,
+        left: Left::Nothing,
+    };
+    check(rt, page, RUN, want)
+}
