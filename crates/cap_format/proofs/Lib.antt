@@ -14,3 +14,5 @@ pub mod Sealed
 pub mod MovedFields
 pub mod RegionMoves
 pub mod CodeRules
+pub mod Holding
+pub mod ImageRules

@@ -7,3 +7,8 @@ pub mod SetBounds
 pub mod Sealing
 pub mod Moves
 pub mod Code
+pub mod Rules
+pub mod FileNumbers
+pub mod Image
+pub mod ImageLaws
+pub mod ImageExamples

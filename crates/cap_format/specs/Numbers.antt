@@ -37,6 +37,26 @@ image_bytes = 4194304
 abbrev pub table_bytes : ℕ
 table_bytes = 2621440
 
+-- the bytes of an image's file header, of a program header and of a relocation, and the most program headers
+abbrev pub file_header_bytes : ℕ
+file_header_bytes = 64
+
+abbrev pub program_header_bytes : ℕ
+program_header_bytes = 56
+
+abbrev pub relocation_bytes : ℕ
+relocation_bytes = 40
+
+abbrev pub most_headers : ℕ
+most_headers = 16
+
+-- the types of the program headers of a segment and of the table of relocations
+abbrev pub segment_type : ℕ
+segment_type = 1
+
+abbrev pub table_type : ℕ
+table_type = 0x6b000001
+
 -- The bits of the permissions. Their meanings are after the CHERI ISA v9, and their places are this project's own.
 abbrev pub permit_execute : ℕ
 permit_execute = 2
@@ -68,6 +88,12 @@ pub record ConstantsAreFixed : Type 0 where
   pub most_frames_is : code.MOST_FRAMES ≡ most_frames
   pub image_bytes_is : code.IMAGE_BYTES ≡ image_bytes
   pub table_bytes_is : code.TABLE_BYTES ≡ table_bytes
+  pub file_header_bytes_is : code.FILE_HEADER_BYTES ≡ file_header_bytes
+  pub program_header_bytes_is : code.PROGRAM_HEADER_BYTES ≡ program_header_bytes
+  pub relocation_bytes_is : code.RELOCATION_BYTES ≡ relocation_bytes
+  pub most_headers_is : code.MOST_HEADERS ≡ most_headers
+  pub segment_type_is : code.SEGMENT_TYPE ≡ segment_type
+  pub table_type_is : code.TABLE_TYPE ≡ table_type
   pub execute : code.EXECUTE ≡ permit_execute
   pub load : code.LOAD ≡ permit_load
   pub store : code.STORE ≡ permit_store

@@ -3,6 +3,9 @@ ghost use Rattle.cap_format.specs.Numbers.{ConstantsAreFixed};
 ghost use Rattle.cap_format.specs.Pattern.{EachHasOneBase, KeepsBoundsWithin};
 ghost use Rattle.cap_format.specs.SetBounds.{EachHasLeastExponent, RoundedLengthsAreExact};
 ghost use Rattle.cap_format.specs.Code.{CodeMoves, CodeGoesOn};
+ghost use Rattle.cap_format.specs.Rules.{FirstFaultsDecide};
+ghost use Rattle.cap_format.specs.ImageLaws.{ImagesAreSound, LongFilesAreNone};
+ghost use Rattle.cap_format.specs.ImageExamples.{WorkedImagesHold};
 ghost use Rattle.cap_format.specs.Moves.{EachMoveIsOne, MovesGoInside, MovesToItselfAreNone, TwoMovesAreOne};
 
 /// Each pattern of 128 bits has one base, which is what [`Cap::base`](crate::Cap::base) gives.
@@ -69,4 +72,25 @@ pub fn code_goes_on()
 /// The constants of this crate are the numbers that the definitions fix.
 pub fn constants_are_fixed()
     ensures { ConstantsAreFixed }
+{}
+
+/// The fault of rules in order is that of the first one that fails, and there is none exactly where each holds.
+pub fn first_faults_decide()
+    ensures { FirstFaultsDecide }
+{}
+
+/// What follows at once for an image: its segments rise without overlap, in the region and in the file, its entry and its
+/// relocations lie on their pages, and it has at most a region's pages.
+pub fn images_are_sound()
+    ensures { ImagesAreSound }
+{}
+
+/// A file of more than [`IMAGE_BYTES`](crate::IMAGE_BYTES) bytes is no image, whatever is in it.
+pub fn long_files_are_none()
+    ensures { LongFilesAreNone }
+{}
+
+/// Images, and files that break a rule, that are worked out: each rule, at its edges and in its order.
+pub fn worked_images_hold()
+    ensures { WorkedImagesHold }
 {}

@@ -6,6 +6,7 @@
 
 mod bounds;
 mod cap;
+mod image;
 mod laws;
 mod lengths;
 mod set_bounds;
@@ -13,10 +14,12 @@ mod set_bounds;
 mod tests;
 
 pub use cap::{Bounded, Cap};
+pub use image::{ImageFault, ImageReason, ProgramHeader, Relocation};
 pub use laws::{
     code_goes_on, code_moves, constants_are_fixed, each_has_least_exponent, each_has_one_base,
-    each_move_is_one, keeps_bounds_within, moves_go_inside, moves_to_itself_are_none,
-    rounded_lengths_are_exact, two_moves_are_one,
+    each_move_is_one, first_faults_decide, images_are_sound, keeps_bounds_within,
+    long_files_are_none, moves_go_inside, moves_to_itself_are_none, rounded_lengths_are_exact,
+    two_moves_are_one, worked_images_hold,
 };
 pub use lengths::{align_mask, rounded_length};
 
@@ -46,6 +49,24 @@ pub const IMAGE_BYTES: usize = 4_194_304;
 
 /// The most bytes of an image's table of relocations.
 pub const TABLE_BYTES: u64 = 2_621_440;
+
+/// The size of an image's file header, in bytes. The program headers come next.
+pub const FILE_HEADER_BYTES: usize = 64;
+
+/// The size of a program header, in bytes.
+pub const PROGRAM_HEADER_BYTES: usize = 56;
+
+/// The size of a relocation in an image's table, in bytes.
+pub const RELOCATION_BYTES: usize = 40;
+
+/// The most program headers of an image.
+pub const MOST_HEADERS: u16 = 16;
+
+/// The type of the program header of a segment.
+pub const SEGMENT_TYPE: u32 = 1;
+
+/// The type of the program header of the table of relocations.
+pub const TABLE_TYPE: u32 = 0x6b00_0001;
 
 /// The number of regions. Region `i` begins at `FIRST_REGION + i * REGION_BYTES`.
 pub const MOST_REGIONS: u32 = 64;

@@ -1,2 +1,4 @@
 pub mod Parts
 pub mod Headers
+pub mod LittleNumbers
+pub mod Walks

@@ -1,2 +1,4 @@
 pub mod Numbers
 pub mod FirstImage
+pub mod Tested
+pub mod Loaded

@@ -61,16 +61,23 @@ pub fn page_of(alloc: Global, words: &[u32]) -> Result<Vec<u8>, Fail> {
 
 /// The image of a page of 1 to 4096 bytes.
 pub fn image_of(alloc: Global, page: &[u8]) -> Result<Vec<u8>, Fail> {
-    let mut image = vec![in alloc; 0_u8; 4096]?;
-    for (place, byte) in HEADERS {
-        set(&mut image, place, byte);
-    }
+    let mut image = headers(alloc)?;
     let [low, high] = u16::try_from(page.len()).unwrap_or(0).to_le_bytes();
-    for (place, byte) in [(96, low), (97, high), (104, low), (105, high)] {
-        set(&mut image, place, byte);
-    }
+    set(&mut image, 96, low);
+    set(&mut image, 97, high);
+    set(&mut image, 104, low);
+    set(&mut image, 105, high);
     image.extend_from_slice(page)?;
     Ok(image)
+}
+
+// The headers, without sizes.
+fn headers(alloc: Global) -> Result<Vec<u8>, Fail> {
+    let mut headers = vec![in alloc; 0_u8; 4096]?;
+    for (place, byte) in HEADERS {
+        set(&mut headers, place, byte);
+    }
+    Ok(headers)
 }
 
 fn set(bytes: &mut [u8], place: usize, byte: u8) {
