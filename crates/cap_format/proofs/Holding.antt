@@ -1,5 +1,6 @@
 -- Rules that all hold, and the first one that fails.
 use Rattle.std.proofs.Common.{◌≡◌, Bool, true, false, refl, List, [], ◌∷◌, ◌++◌, None, Some}
+use Rattle.cap_format.specs.declared.image.ImageFault.{ImageFault}
 use Rattle.cap_format.specs.Rules.{Rule, AllHold, fault_by, first_fault}
 
 -- rules that hold are passed
@@ -24,6 +25,15 @@ none-holding (rule ∷ rules) e = by rule.holds refl e (none-holding rules)
 -- the fault of a rule that fails is its own
 pub failing-first : (rule : Rule) (after : List Rule) → rule.holds ≡ false → first_fault (rule ∷ after) ≡ Some (fault_by rule)
 failing-first rule after h = rw h refl
+
+-- and a fault of the first rules is that of all
+pub failing-behind : (before after : List Rule) (fault : ImageFault) → first_fault before ≡ Some fault → first_fault (before ++ after) ≡ Some fault
+failing-behind [] after fault e = absurd (cc)
+failing-behind (rule ∷ before) after fault e = by rule.holds refl e (failing-behind before after fault)
+  where
+    by : (b : Bool) → rule.holds ≡ b → first_fault (rule ∷ before) ≡ Some fault → (first_fault before ≡ Some fault → first_fault (before ++ after) ≡ Some fault) → first_fault (rule ∷ (before ++ after)) ≡ Some fault
+    by true h e k = rw h (k (rw h at e))
+    by false h e k = rw h (rw h at e)
 
 -- of rules that hold, so do those of each part
 pub hold-left : (before after : List Rule) → AllHold (before ++ after) → AllHold before

@@ -9,7 +9,7 @@ use Rattle.cap_format.specs.Numbers.{region_bytes, region_pages, page_bytes, ima
 use Rattle.cap_format.specs.Rules.{AllHold}
 use Rattle.cap_format.specs.declared.image.ProgramHeader.{ProgramHeader}
 use Rattle.cap_format.specs.declared.image.Relocation.{Relocation}
-use Rattle.cap_format.specs.Image.{IsImage, rules, rules_with, length_rules, byte_rules, identification, field_rules, room_rules, segment_rules, table_rules, header_rules, headers_rules, past_after, first_after, entry_rules, relocation_rules, relocations_rules, table_place, is_segment, is_table, covers, covers_code, end_of, pages_of, header_count, entry_of, headers_of, segments_of, relocations_of}
+use Rattle.cap_format.specs.Image.{IsImage, front_rules, rules, rules_with, length_rules, byte_rules, identification, field_rules, room_rules, segment_rules, table_rules, header_rules, headers_rules, past_after, first_after, entry_rules, relocation_rules, relocations_rules, table_place, is_segment, is_table, covers, covers_code, end_of, pages_of, header_count, entry_of, headers_of, segments_of, relocations_of}
 use Rattle.cap_format.specs.ImageLaws.{IsSegmentBehind, AreSegmentsBehind, IsRelocationBehind, AreRelocationsBehind, IsEntry}
 use Rattle.cap_format.proofs.Holding.{none-holding, hold-left, hold-right}
 
@@ -206,20 +206,19 @@ pub record Held (file : List ℕ) : Type 0 where
 held : (file : List ℕ) → IsImage file → Held file
 unfolding rules
 held file image =
-    let four = rules_with file (headers_of file) in
-    let three = room_rules file ++ four in
-    let two = field_rules file ++ three in
-    let one = byte_rules file 0 identification ++ two in
-    let all : AllHold (length_rules (length file) ++ one) = none-holding (rules file) image in
-    let from_fields : AllHold two = hold-right (byte_rules file 0 identification) two (hold-right (length_rules (length file)) one all) in
-    let from_room : AllHold three = hold-right (field_rules file) three from_fields in
-    let from_headers : AllHold four = hold-right (room_rules file) four from_room in
+    let rest = rules_with file (headers_of file) in
+    let three = field_rules file ++ room_rules file in
+    let two = byte_rules file 0 identification ++ three in
+    let all : AllHold (front_rules file ++ rest) = none-holding (rules file) image in
+    let front : AllHold (length_rules (length file) ++ two) = hold-left (front_rules file) rest all in
+    let from_fields : AllHold three = hold-right (byte_rules file 0 identification) three (hold-right (length_rules (length file)) two front) in
+    let from_headers : AllHold rest = hold-right (front_rules file) rest all in
     let last = relocations_rules (headers_of file) 0 (table_place (find is_table (headers_of file))) (relocations_of file) in
     let behind = entry_rules (entry_of file) (headers_of file) ++ last in
     let from_entry : AllHold behind = hold-right (headers_rules (length file) 0 true file_header_bytes (headers_of file)) behind from_headers in
     record {
-      sizes = hold-left (length_rules (length file)) one all;
-      room = hold-left (room_rules file) four from_room;
+      sizes = hold-left (length_rules (length file)) two front;
+      room = hold-right (field_rules file) (room_rules file) from_fields;
       headers = hold-left (headers_rules (length file) 0 true file_header_bytes (headers_of file)) behind from_headers;
       entry = hold-left (entry_rules (entry_of file) (headers_of file)) last from_entry;
       relocations = hold-right (entry_rules (entry_of file) (headers_of file)) last from_entry;

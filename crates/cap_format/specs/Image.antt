@@ -193,14 +193,13 @@ segments_of file = filter is_segment (headers_of file)
 abbrev pub relocations_of : List ℕ → List Relocation
 relocations_of file = relocations_in file (find is_table (headers_of file))
 
+-- the rules that come before the program headers
+abbrev pub front_rules : List ℕ → List Rule
+front_rules file = length_rules (length file) ++ (byte_rules file 0 identification ++ (field_rules file ++ room_rules file))
+
 -- all rules
 unfoldable pub rules : List ℕ → List Rule
-rules file =
-    length_rules (length file)
-    ++ (byte_rules file 0 identification
-    ++ (field_rules file
-    ++ (room_rules file
-    ++ rules_with file (headers_of file))))
+rules file = front_rules file ++ rules_with file (headers_of file)
 
 -- the fault of a file, by the first rule that it breaks; an image breaks none
 abbrev pub fault_of : List ℕ → Option ImageFault
@@ -209,7 +208,10 @@ fault_of file = first_fault (rules file)
 abbrev pub IsImage : List ℕ → Type 0
 IsImage file = fault_of file ≡ None
 
--- the pages of segments
+-- how many pages a segment has, and how many segments have
+abbrev pub pages_in : ProgramHeader → ℕ
+pages_in segment = (end_of segment - segment.start) / page_bytes
+
 abbrev pub pages_of : List ProgramHeader → ℕ
 pages_of [] = 0
-pages_of (segment ∷ segments) = (end_of segment - segment.start) / page_bytes + pages_of segments
+pages_of (segment ∷ segments) = pages_in segment + pages_of segments

@@ -100,21 +100,15 @@ effect-runs s region may =
 pub effect-holds : (s : State) (region page g : ℕ) (cap : Cap) → MayRun region s → peek_of (effect s region).after.content region page g ≡ Some cap → MayHave (effect s region).after.content region cap
 effect-holds s region page g cap may h = (peek-held (effect s region).after.content region page g cap (effect-runs s region may).whole h).inside
 
--- PCC goes on behind a call, and an integer is put into a register
-past-call : (s t : State) (region n answer : ℕ) → t.pcc ≡ s.pcc → IsTrue (holds s.pcc.bits (address_of s.pcc.bits) 4) → answer < 2 ^ 64 → MayRun region t
-    → MayRun region (state (with_register t.registers n (from_int answer)) (next_pcc t.pcc) t.content)
-past-call s t region n answer same bytes small may =
-    let runs = runs-first t region may in
-    runs-last (state (with_register t.registers n (from_int answer)) (next_pcc t.pcc) t.content) region may.below (record {
+-- so it may with PCC behind an instruction, and an integer in a register
+pub answered-runs : (s : State) (region n answer : ℕ) → MayRun region s → IsTrue (holds s.pcc.bits (address_of s.pcc.bits) 4) → answer < 2 ^ 64
+    → MayRun region (state (with_register s.registers n (from_int answer)) (next_pcc s.pcc) s.content)
+answered-runs s region n answer may bytes small =
+    let runs = runs-first s region may in
+    runs-last (state (with_register s.registers n (from_int answer)) (next_pcc s.pcc) s.content) region may.below (record {
       ready = runs.ready;
       kept = record {
-        registers_kept = kept-with region t.registers n (from_int answer) runs.kept.registers_kept (held-integer region answer (omega (arith, small)));
-        counter = counter-next region t.pcc may.below runs.kept.counter (rw same bytes);
+        registers_kept = kept-with region s.registers n (from_int answer) runs.kept.registers_kept (held-integer region answer (omega (arith, small)));
+        counter = counter-next region s.pcc may.below runs.kept.counter bytes;
       };
     })
-
--- so a process may run past a call that is answered
-pub answered-runs : (s : State) (region n answer : ℕ) → MayRun region s → (effect s region).end ≡ Call → answer < 2 ^ 64
-    → MayRun region (state (with_register (effect s region).after.registers n (from_int answer)) (next_pcc (effect s region).after.pcc) (effect s region).after.content)
-answered-runs s region n answer may e small =
-    past-call s (effect s region).after region n answer (effect-left s region (λ next. absurd (cc))).pcc (call-bound s region e) small (effect-runs s region may)

@@ -66,12 +66,13 @@ pub record MayRun (region : ℕ) (s : State) : Type 0 where
   pub steps : CanStep region s.registers s.pcc s.content
 
 -- A process that may run may run after an instruction: the content stays whole, PCC stays code, and PCC, each register and each
--- granule of its store are what it may have. So it may past a call that answers an integer in a register.
+-- granule of its store are what it may have. So it may past an instruction in the bounds of PCC, with an integer in a register: a
+-- call that answers.
 pub record EffectsKeepRunning : Type 0 where
   pub runs : (s : State) (region : ℕ) → MayRun region s → MayRun region (effect s region).after
   pub store : (s : State) (region page g : ℕ) (cap : Cap) → MayRun region s → peek_of (effect s region).after.content region page g ≡ Some cap → MayHave (effect s region).after.content region cap
-  pub answered : (s : State) (region n answer : ℕ) → MayRun region s → (effect s region).end ≡ Call → answer < 2 ^ 64
-      → MayRun region (state (with_register (effect s region).after.registers n (from_int answer)) (next_pcc (effect s region).after.pcc) (effect s region).after.content)
+  pub answered : (s : State) (region n answer : ℕ) → MayRun region s → IsTrue (holds s.pcc.bits (address_of s.pcc.bits) 4) → answer < 2 ^ 64
+      → MayRun region (state (with_register s.registers n (from_int answer)) (next_pcc s.pcc) s.content)
 
 -- registers, PCC and every store are as before
 pub record IsLeft (s t : State) : Type 0 where

@@ -20,12 +20,16 @@ begin_of c region = with_store c region (Some empty_store)
 unfoldable pub end_of : Content → ℕ → Content
 end_of c region = with_account (with_store c region None) (account_at_end region c.account)
 
--- a page with these bytes and then zeros, in a new class with this home
+-- a page more, with these bytes and then zeros, in a new class with this home
+abbrev pub with_new_page : Content → ℕ → ℕ → ℕ → List ℕ → Content
+with_new_page c region page rights bytes = with_account (with_page c region page (page_of_bytes rights bytes)) (c.account ++ (class_for region page ∷ []))
+
+-- where a frame is free
 unfoldable pub add_page_of : Content → ℕ → ℕ → ℕ → List ℕ → CallOutcome (Result (Unit {0}) NoFrame)
 add_page_of c region page rights bytes =
     if is_full c
     then record { answer = Err no_frame; after = c }
-    else record { answer = Ok tt; after = with_account (with_page c region page (page_of_bytes rights bytes)) (c.account ++ (class_for region page ∷ [])) }
+    else record { answer = Ok tt; after = with_new_page c region page rights bytes }
 
 -- a granule is stored, whatever the rights
 unfoldable pub seed_cap_of : Content → ℕ → ℕ → Cap → Content

@@ -2,7 +2,6 @@
 use Rattle.std.proofs.Common.{◌≡◌, ◌∙◌, ℕ, zero, suc, ◌+◌, ◌-◌, ◌*◌, ◌/◌, ◌<◌, ◌≤◌, ◌≢◌, Bool, true, false, if◌then◌else◌, Option, Some, None, List, [], ◌∷◌, ◌++◌, length, take, drop, get_or, slice_set, find, map, All, ◌==◌, refl, ap, sym, subst, arith, append_assoc}
 use Rattle.std.specs.Option.{is_some}
 use Rattle.std.proofs.lemmas.Bool.{eq-eqb, ne_eqb, false≢true}
-use Rattle.std.specs.List.{list_any}
 use Rattle.std.proofs.lemmas.List.{drop_more, take_more, take_more_set}
 use Rattle.std.proofs.lemmas.List.Elements.{All-append, All-get_or, All-from_get_or}
 use Rattle.cap_format.specs.declared.image.ImageReason.TheVariants.{BadMagic}
@@ -11,36 +10,20 @@ use Rattle.cap_format.specs.declared.image.ImageFault.{ImageFault}
 use Rattle.cap_format.specs.declared.image.ProgramHeader.{ProgramHeader}
 use Rattle.cap_format.specs.Rules.{Rule, first_fault}
 use Rattle.cap_format.specs.FileNumbers.{byte_at}
-use Rattle.cap_format.specs.Image.{fault_of, rules, rules_with, headers_of, length_rules, field_rules, room_rules, byte_rules, identification, header_at, headers_at, header_rules, headers_rules, past_after, first_after, is_table, relocation_at, relocations_at, relocation_rules, relocations_rules}
+use Rattle.cap_format.specs.Image.{fault_of, front_rules, rules, rules_with, headers_of, byte_rules, header_at, headers_at, header_rules, headers_rules, past_after, first_after, is_table, relocation_at, relocations_at, relocation_rules, relocations_rules}
+use Rattle.cap_format.proofs.Holding.{holding-behind, none-holding, failing-behind}
 use Rattle.elf_loader.specs.declared.image.Reloc.{Reloc}
 use Rattle.elf_loader.specs.Loaded.{reloc_of}
-use Rattle.elf_loader.specs.Tested.{IsInRegion, IsTableIn, IsNarrow, front_rules}
-
--- rules that hold are passed, and a fault is the fault of all
-pub fault-none : (a b : List Rule) → first_fault a ≡ None → first_fault (a ++ b) ≡ first_fault b
-fault-none [] b e = refl
-fault-none (rule ∷ a) b e = by rule.holds refl e (fault-none a b)
-  where
-    by : (c : Bool) → rule.holds ≡ c → first_fault (rule ∷ a) ≡ None → (first_fault a ≡ None → first_fault (a ++ b) ≡ first_fault b) → first_fault (rule ∷ (a ++ b)) ≡ first_fault b
-    by true h e k = rw h (k (rw h at e))
-    by false h e k = absurd (let none = rw h at e in cc)
-
-pub fault-some : (a b : List Rule) (f : ImageFault) → first_fault a ≡ Some f → first_fault (a ++ b) ≡ Some f
-fault-some [] b f e = absurd (cc)
-fault-some (rule ∷ a) b f e = by rule.holds refl e (fault-some a b f)
-  where
-    by : (c : Bool) → rule.holds ≡ c → first_fault (rule ∷ a) ≡ Some f → (first_fault a ≡ Some f → first_fault (a ++ b) ≡ Some f) → first_fault (rule ∷ (a ++ b)) ≡ Some f
-    by true h e k = rw h (k (rw h at e))
-    by false h e k = rw h (rw h at e)
+use Rattle.elf_loader.specs.Tested.{IsInRegion, IsTableIn, IsNarrow}
 
 -- what was found of the first rules, where it is a fault and where it is none
 pub found-some : (a b : List Rule) (found : Option ImageFault) → is_some found ≡ true → found ≡ first_fault a → found ≡ first_fault (a ++ b)
 found-some a b None some e = absurd (cc)
-found-some a b (Some f) some e = sym (fault-some a b f (sym e))
+found-some a b (Some f) some e = sym (failing-behind a b f (sym e))
 
 pub found-none : (a b : List Rule) (found : Option ImageFault) → is_some found ≡ false → found ≡ first_fault a → first_fault (a ++ b) ≡ first_fault b
 found-none a b (Some f) none e = absurd (cc)
-found-none a b None none e = fault-none a b (sym e)
+found-none a b None none e = holding-behind a b (none-holding a (sym e))
 
 pub is-none : (found : Option ImageFault) → is_some found ≡ false → found ≡ None
 is-none None none = refl
@@ -84,19 +67,6 @@ header-more n headers past first h i d found past2 first2 w below none e region 
   region = rw (take_more headers i d below) (All-append IsInRegion (take i headers) (get_or headers i d ∷ []) w.region (all-one IsInRegion (get_or headers i d) region));
   tables = rw (take_more headers i d below) (All-append (IsTableIn n) (take i headers) (get_or headers i d ∷ []) w.tables (all-one (IsTableIn n) (get_or headers i d) table));
 }
-
--- a search that came to this element goes on, or has found
-pub any-more : {X : Type 0} (p : X → Bool) (xs : List X) (i : ℕ) (d : X) → i < length xs → p (get_or xs i d) ≡ false → list_any p (drop i xs) ≡ list_any p xs → list_any p (drop (i + 1) xs) ≡ list_any p xs
-any-more p xs i d below other same = (let e = drop_more xs i d below in rw (e, other) at same)
-
-pub any-found : {X : Type 0} (p : X → Bool) (xs : List X) (i : ℕ) (d : X) → i < length xs → p (get_or xs i d) ≡ true → list_any p (drop i xs) ≡ list_any p xs → true ≡ list_any p xs
-any-found p xs i d below one same = (let e = drop_more xs i d below in rw (e, one) at same)
-
-pub find-more : {X : Type 0} (p : X → Bool) (xs : List X) (i : ℕ) (d : X) → i < length xs → p (get_or xs i d) ≡ false → find p (drop i xs) ≡ find p xs → find p (drop (i + 1) xs) ≡ find p xs
-find-more p xs i d below other same = (let e = drop_more xs i d below in rw (e, other) at same)
-
-pub find-found : {X : Type 0} (p : X → Bool) (xs : List X) (i : ℕ) (d : X) → i < length xs → p (get_or xs i d) ≡ true → find p (drop i xs) ≡ find p xs → Some (get_or xs i d) ≡ find p xs
-find-found p xs i d below one same = (let e = drop_more xs i d below in rw (e, one) at same)
 
 -- the identification from a place on
 pub bytes-fault : (file bytes : List ℕ) (i : ℕ) → i < length bytes → (byte_at file i == get_or bytes i 0) ≡ false
@@ -186,15 +156,6 @@ table-fits n (header ∷ headers) table is fit = by (is_table header) refl is (A
 pub table-room : (from size n : ℕ) → from + size ≤ n → from + 40 * (size / 40) ≤ n
 table-room from size n fits = omega (arith, fits)
 
--- all rules are those before the program headers and those of them
-pub all-rules : (file : List ℕ) → rules file ≡ front_rules file ++ rules_with file (headers_of file)
-unfolding rules
-all-rules file =
-    let rest = rules_with file (headers_of file) in
-    sym (append_assoc (length_rules (length file)) (byte_rules file 0 identification ++ (field_rules file ++ room_rules file)) rest
-    ∙ ap (λ l. length_rules (length file) ++ l) (append_assoc (byte_rules file 0 identification) (field_rules file ++ room_rules file) rest
-    ∙ ap (λ l. byte_rules file 0 identification ++ l) (append_assoc (field_rules file) (room_rules file) rest)))
-
 -- the first of relocations that fit, and the others
 pub first-narrow : (file : List ℕ) (r left : ℕ) → 0 < left → All IsNarrow (relocations_at file r left) → IsNarrow (relocation_at file r)
 first-narrow file r left some all =
@@ -227,8 +188,14 @@ relocs-more file from count i items all value below is same =
 
 -- where the rules before the program headers hold, the fault is that of the rules of these
 pub behind-front : (file : List ℕ) (headers : List ProgramHeader) → headers ≡ headers_of file → first_fault (front_rules file) ≡ None → fault_of file ≡ first_fault (rules_with file headers)
+unfolding rules
 behind-front file headers same none =
-    ap first_fault (all-rules file) ∙ fault-none (front_rules file) (rules_with file (headers_of file)) none ∙ ap (λ (hs : List ProgramHeader). first_fault (rules_with file hs)) (sym same)
+    holding-behind (front_rules file) (rules_with file (headers_of file)) (none-holding (front_rules file) none) ∙ ap (λ (hs : List ProgramHeader). first_fault (rules_with file hs)) (sym same)
+
+-- and where one of them fails, it is its own
+pub at-front : (file : List ℕ) (fault : ImageFault) → first_fault (front_rules file) ≡ Some fault → fault_of file ≡ Some fault
+unfolding rules
+at-front file fault e = failing-behind (front_rules file) (rules_with file (headers_of file)) fault e
 
 pub none-of : (found : Option ImageFault) → ((f : ImageFault) → found ≡ Some f → ⊥) → found ≡ None
 none-of None other = refl

@@ -1,4 +1,7 @@
 pub mod Numbers
-pub mod FirstImage
 pub mod Tested
 pub mod Loaded
+pub mod Start
+pub mod Adding
+pub mod StartLaws
+pub mod StartExamples

@@ -1,14 +1,9 @@
 -- What has been tested of a file so far.
-use Rattle.std.specs.Prelude.{ℕ, ◌+◌, ◌*◌, ◌^◌, ◌<◌, ◌≤◌, IsTrue, List, ◌++◌, length}
+use Rattle.std.specs.Prelude.{ℕ, ◌+◌, ◌*◌, ◌^◌, ◌<◌, ◌≤◌, IsTrue, List, length}
 use Rattle.cap_format.specs.Numbers.{region_bytes, image_bytes, file_header_bytes, program_header_bytes, most_headers}
 use Rattle.cap_format.specs.declared.image.ProgramHeader.{ProgramHeader}
 use Rattle.cap_format.specs.declared.image.Relocation.{Relocation}
-use Rattle.cap_format.specs.Rules.{Rule}
-use Rattle.cap_format.specs.Image.{length_rules, byte_rules, identification, field_rules, room_rules, header_count, is_segment, is_table}
-
--- the rules that come before the program headers
-abbrev pub front_rules : List ℕ → List Rule
-front_rules file = length_rules (length file) ++ (byte_rules file 0 identification ++ (field_rules file ++ room_rules file))
+use Rattle.cap_format.specs.Image.{header_count, is_segment, is_table}
 
 -- the program headers are there
 pub record HasHeaders (file : List ℕ) : Type 0 where

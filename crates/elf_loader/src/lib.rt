@@ -1,27 +1,27 @@
-//! Images of guest programs: which files are images, and what they hold.
+//! Images of guest programs: which files are images, what they hold, and how one is started.
 //!
 //! [`read_image`] reads every image, by the rules of the image grammar, and says of any other file which rule it breaks first, and
-//! where. [`first_image`] is the test for the one form that is run so far: one page behind a block of ELF64 headers.
+//! where. [`start`] puts an image into a space: its pages, its capabilities, and the registers with which the process begins.
 #![tactic(auto)]
 
+mod examples;
 mod fields;
-mod first_images;
 mod image;
 mod laws;
 mod program_headers;
 mod rules;
+mod starts;
 
-pub use first_images::first_image;
+pub use examples::worked_starts_hold;
 pub use image::{Image, ImageRefusal, Reloc, Relocs, Segment, Segments, read_image};
-pub use laws::constants_are_fixed;
+pub use laws::{
+    constants_are_fixed, relocations_are_exact, starts_are_decided, starts_are_exact,
+    starts_may_run,
+};
+pub use starts::{StartState, start};
 
-/// The size of the block of headers, in bytes: one page.
-pub const HEADER_BYTES: usize = 4096;
-
-/// The most bytes of a first image: its headers and one page.
-pub const FIRST_IMAGE_BYTES: usize = 8192;
+/// The region of process 1.
+pub const PROCESS_REGION: u32 = 0;
 
 #[cfg(test)]
 mod image_tests;
-#[cfg(test)]
-mod tests;

@@ -4,8 +4,8 @@ ghost use Rattle.std.specs.List.{list_any};
 ghost use Rattle.cap_format.specs.Region.{region_start};
 ghost use Rattle.cap_format.specs.SetBounds.{is_exact};
 ghost use Rattle.cap_format.specs.Rules.{first_fault};
-ghost use Rattle.cap_format.specs.Image.{length_rules, byte_rules, identification, field_rules, room_rules, header_count, is_in_file, segment_rules, table_rules, header_rules, headers_rules, past_after, first_after, end_of, is_segment, is_table, covers, covers_code, entry_rules, relocation_rules, relocations_rules, relocations_at, relocations_in, table_place, rules_with};
-ghost use Rattle.elf_loader.specs.Tested.{front_rules, HasHeaders, IsInRegion, IsTableIn, IsNarrow};
+ghost use Rattle.cap_format.specs.Image.{front_rules, length_rules, byte_rules, identification, field_rules, room_rules, header_count, is_in_file, segment_rules, table_rules, header_rules, headers_rules, past_after, first_after, end_of, is_segment, is_table, covers, covers_code, entry_rules, relocation_rules, relocations_rules, relocations_at, relocations_in, table_place, rules_with};
+ghost use Rattle.elf_loader.specs.Tested.{HasHeaders, IsInRegion, IsTableIn, IsNarrow};
 
 use crate::fields::{relocation_at, u16_at, u32_at, u64_at};
 use cap_format::{

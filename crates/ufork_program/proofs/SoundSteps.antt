@@ -1,19 +1,23 @@
--- A step of a live process leaves it one that may run, with no page but the first.
-use Rattle.std.proofs.Common.{◌==◌, ◌≡◌, ℕ, ◌-◌, ◌<◌, ◌^◌, List, true, false, if◌then◌else◌, Option, Some, None, Result, Ok, Err, refl, sym, ap, ◌∙◌, arith}
-use Rattle.std.specs.Prelude.{is_some}
-use Rattle.std.specs.Option.{option_map}
+-- A step of a live process leaves it one that may run.
+use Rattle.std.proofs.Common.{◌==◌, ◌≡◌, ◌≢◌, ℕ, ◌+◌, ◌-◌, ◌<◌, ◌≤◌, ◌^◌, ◌⊎◌, inl, inr, nat_eq, not, List, true, false, if◌then◌else◌, IsTrue, Option, Some, None, Result, Ok, Err, refl, sym, ap, ◌∙◌, subst, arith}
+use Rattle.std.specs.Prelude.{is_some, min}
 use Rattle.std.proofs.lemmas.Bool.{false≢true}
+use Rattle.std.proofs.lemmas.Bool.Decides.{eqb_tells}
 use Rattle.cap_format.specs.declared.cap.Cap.{Cap}
 use Rattle.cap_format.specs.Made.{from_int}
+use Rattle.cap_format.specs.Pattern.{address_of}
+use Rattle.cap_format.specs.Rights.{holds}
 use Rattle.machine_types.specs.declared.touches.Access.TheVariants.{Read}
 use Rattle.machine_types.specs.declared.touches.Note.{Note}
 use Rattle.machine_types.specs.declared.touches.NoFrame.{NoFrame}
+use Rattle.machine_types.specs.declared.errno.Errno.{Errno}
 use Rattle.machine_types.specs.declared.errno.Errno.TheVariants.{Ebadf, Efault, Enosys}
+use Rattle.machine_types.specs.Errors.{error_number}
 use Rattle.machine_types.specs.Registers.{register, with_register}
 use Rattle.machine_types.specs.Stores.{Store}
-use Rattle.contents.specs.Content.{Content, page_in}
+use Rattle.contents.specs.Content.{Content}
+use Rattle.contents.specs.Numbers.{most_transfer}
 use Rattle.contents.specs.Transfers.{prepare_of}
-use Rattle.contents.specs.Looks.{rights_of}
 use Rattle.contents.specs.Whole.{IsWhole, CallsKeepWhole}
 use Rattle.contents.specs.Laws.{RegionsAreKept}
 use Rattle.contents.specs.Conditions.{HasNoStore}
@@ -23,22 +27,15 @@ use Rattle.cheri_step.specs.declared.step.StepEnd.{StepEnd}
 use Rattle.cheri_step.specs.declared.step.StepEnd.TheVariants.{Next, Call, Fault}
 use Rattle.cheri_step.specs.Results.{next_pcc}
 use Rattle.cheri_step.specs.Effect.{State, state, effect}
-use Rattle.cheri_step.specs.Laws.{MayRun, EffectsKeepRunning, EffectsLeaveOthers}
+use Rattle.cheri_step.specs.Laws.{MayRun, EffectsKeepRunning, FaultsChangeNothing}
+use Rattle.elf_loader.specs.Numbers.{process_region}
 use Rattle.ufork_program.specs.declared.calls.Called.{Called}
-use Rattle.ufork_program.specs.declared.calls.Called.TheVariants.{Answered, Ended}
-use Rattle.ufork_program.specs.Numbers.{process_region, exit_call, write_call, console_output}
-use Rattle.ufork_program.specs.Machine.{Machine, HasOnePage, IsReady, IsSound}
-use Rattle.ufork_program.specs.Calls.{CallEffect, answers, refuses, integer, place_of, is_readable, printed, sent, written, exited, call_effect}
-use Rattle.ufork_program.specs.Steps.{Work, after_call, after_instruction, worked, step_of, CallsLeaveStores}
-use Rattle.ufork_program.proofs.CallLemmas.{either, call-holds}
-
--- The rights of pages are those of the stores.
-same-rights : (c d : Content) → HaveSameStores c d → (page : ℕ) → rights_of d process_region page ≡ rights_of c process_region page
-unfolding rights_of
-same-rights c d same page = ap (λ (o : Option Store). option_map (λ p. p.rights) (page_in o page)) (same process_region)
-
-same-page : (c d : Content) → HaveSameStores c d → HasOnePage c → HasOnePage d
-same-page c d same one page other = same-rights c d same page ∙ one page other
+use Rattle.ufork_program.specs.declared.calls.Called.TheVariants.{Answered, Writing, Ended}
+use Rattle.ufork_program.specs.Numbers.{write_call, console_output}
+use Rattle.ufork_program.specs.Machine.{Machine, IsReady, IsSound}
+use Rattle.ufork_program.specs.Calls.{CallEffect, answers, refuses, integer, place_of, is_readable, after_transfer, printed, sent, written, call_effect, IsFewer}
+use Rattle.ufork_program.specs.Steps.{Work, after_call, called, after_instruction, instructed, worked, step_of, CallsLeaveStores}
+use Rattle.ufork_program.proofs.CallLemmas.{either, call-holds, call_effect-exit, call_effect-write, call_effect-other}
 
 -- A process may run in a whole content with the same stores.
 same-runs : (registers : List Cap) (pcc : Cap) (c d : Content) → HaveSameStores c d → IsWhole d → MayRun process_region (state registers pcc c) → MayRun process_region (state registers pcc d)
@@ -55,77 +52,110 @@ same-runs registers pcc c d same whole runs = record {
   };
 }
 
--- What a call answers is a number of 64 bits.
-abbrev IsSmall : Called → Type 0
-IsSmall (Answered value) = value < 2 ^ 64
-IsSmall (Ended status) = Unit {0}
+-- What a call answers is a number of 64 bits, and a write that goes on has fewer bytes done than it asks for.
+abbrev Fits : List Cap → Called → Type 0
+Fits registers (Answered value) = value < 2 ^ 64
+Fits registers (Writing done) = (integer registers 17 ≡ write_call) × (done < integer registers 12)
+Fits registers (Ended status) = Unit {0}
 
-integer-small : (registers : List Cap) (n : ℕ) → integer registers n < 2 ^ 64
-integer-small registers n = omega arith
+module _ (registers : List Cap) where
+  abbrev EffectFits : CallEffect → Type 0
+  EffectFits e = Fits registers e.called
 
-abbrev answers-small : CallEffect → Type 0
-answers-small e = IsSmall e.called
+  printed-fits : (at size : ℕ) (called : Called) (after : Content) (answer : Result (List Note) NoFrame) → Fits registers called → EffectFits (printed at size called after answer)
+  printed-fits at size called after (Ok notes) fits = fits
+  printed-fits at size called after (Err refused) fits = tt
 
-printed-small : (at count : ℕ) (after : Content) (answer : Result (List Note) NoFrame) → count < 2 ^ 64 → IsSmall (printed at count after answer).called
-printed-small at count after (Ok notes) small = small
-printed-small at count after (Err refused) small = tt
+  transfer-fits : (count done : ℕ) → integer registers 17 ≡ write_call → count ≡ integer registers 12 → count < 2 ^ 64 → done ≤ count → Fits registers (after_transfer count done)
+  transfer-fits count done number is small most = by (eqb_tells done count)
+    where
+      by : ((nat_eq done count ≡ true) × (done ≡ count)) ⊎ ((nat_eq done count ≡ false) × (done ≢ count)) → Fits registers (after_transfer count done)
+      by (inl (test, same)) = rw test small
+      by (inr (test, other)) = rw test (number, omega (arith, is))
 
-refused-small : (n : ℕ) → 0 < n → 2 ^ 64 - n < 2 ^ 64
-refused-small n some = omega (arith, some)
+  module _ (c : Content) (done : ℕ) (fewer : IsFewer registers done) where
+    count-small : integer registers 12 < 2 ^ 64
+    count-small = omega arith
 
-written-small : (registers : List Cap) (c : Content) → answers-small (written registers c)
-written-small registers c =
-    let cap = register registers 11 in
-    let count = integer registers 12 in
-    either answers-small (integer registers 10 == console_output)
-    (if count == 0 then answers c 0 else (if is_readable c cap count then sent c (place_of cap) count else refuses c Efault)) (refuses c Ebadf)
-    (either answers-small (count == 0) (answers c 0) (if is_readable c cap count then sent c (place_of cap) count else refuses c Efault) (omega arith)
-    (either answers-small (is_readable c cap count) (sent c (place_of cap) count) (refuses c Efault)
-    (printed-small (place_of cap) count (prepare_of c process_region (place_of cap) count Read).after (prepare_of c process_region (place_of cap) count Read).answer (integer-small registers 12)) (refused-small 14 (omega arith))))
-    (refused-small 9 (omega arith))
+    sent-fits : (at : ℕ) → integer registers 17 ≡ write_call → integer registers 12 ≢ 0 → EffectFits (sent c at (integer registers 12) done)
+    sent-fits at number some = by (min (integer registers 12 - done) most_transfer) (omega arith) (most (eqb_tells done 0))
+      where
+        most : ((nat_eq done 0 ≡ true) × (done ≡ 0)) ⊎ ((nat_eq done 0 ≡ false) × (done ≢ 0)) → done ≤ integer registers 12
+        most (inl (test, none)) = omega (arith, none)
+        most (inr (test, other)) = let less : done < integer registers 12 = fewer (omega arith) in omega (arith, less)
 
-call-small : (registers : List Cap) (c : Content) → IsSmall (call_effect registers c).called
-unfolding call_effect
-call-small registers c =
-    either answers-small (integer registers 17 == exit_call) (exited registers c) (if integer registers 17 == write_call then written registers c else refuses c Enosys) tt
-    (either answers-small (integer registers 17 == write_call) (written registers c) (refuses c Enosys) (written-small registers c) (refused-small 38 (omega arith)))
+        by : (size : ℕ) → size ≤ integer registers 12 - done → done ≤ integer registers 12
+            → EffectFits (printed (at + done) size (after_transfer (integer registers 12) (done + size)) (prepare_of c process_region (at + done) size Read).after (prepare_of c process_region (at + done) size Read).answer)
+        by size within below = printed-fits (at + done) size _ _ _ (transfer-fits (integer registers 12) (done + size) number refl count-small (omega (arith, within, below)))
+
+    refused-fits : (error : Errno) → 0 < error_number error → EffectFits (refuses c error)
+    refused-fits error some = omega (arith, some)
+
+    written-fits : integer registers 17 ≡ write_call → EffectFits (written registers c done)
+    written-fits number =
+        either EffectFits (integer registers 10 == console_output) _ (refuses c Ebadf) (by (eqb_tells (integer registers 12) 0)) (refused-fits Ebadf (omega arith))
+      where
+        cap : Cap
+        cap = register registers 11
+
+        by : ((nat_eq (integer registers 12) 0 ≡ true) × (integer registers 12 ≡ 0)) ⊎ ((nat_eq (integer registers 12) 0 ≡ false) × (integer registers 12 ≢ 0))
+            → EffectFits (if integer registers 12 == 0 then answers c 0 else (if is_readable c cap (integer registers 12) then sent c (place_of cap) (integer registers 12) done else refuses c Efault))
+        by (inl (test, none)) = rw test (omega arith)
+        by (inr (test, some)) =
+            rw test (either EffectFits (is_readable c cap (integer registers 12)) (sent c (place_of cap) (integer registers 12) done) (refuses c Efault) (sent-fits (place_of cap) number some) (refused-fits Efault (omega arith)))
+
+    call-fits : EffectFits (call_effect registers c done)
+    call-fits = by (eqb_tells (integer registers 17) 1) (eqb_tells (integer registers 17) 8)
+      where
+        by : ((nat_eq (integer registers 17) 1 ≡ true) × (integer registers 17 ≡ 1)) ⊎ ((nat_eq (integer registers 17) 1 ≡ false) × (integer registers 17 ≢ 1))
+            → ((nat_eq (integer registers 17) 8 ≡ true) × (integer registers 17 ≡ 8)) ⊎ ((nat_eq (integer registers 17) 8 ≡ false) × (integer registers 17 ≢ 8)) → EffectFits (call_effect registers c done)
+        by (inl (_, exit)) _ = subst EffectFits (sym (call_effect-exit registers c done exit)) tt
+        by (inr (_, other)) (inl (_, write)) = subst EffectFits (sym (call_effect-write registers c done write)) (written-fits write)
+        by (inr (_, other)) (inr (_, none)) = subst EffectFits (sym (call_effect-other registers c done other none)) (refused-fits Enosys (omega arith))
 
 -- A process that didn't end is ready again.
 abbrev IsFine : Work → Type 0
-IsFine w = w.ended ≡ None → IsReady w.after.registers w.after.pcc w.after.content
+IsFine w = w.ended ≡ None → IsReady w.after.registers w.after.pcc w.writing w.after.content
 
-module _ (keeps : EffectsKeepRunning) (leave : EffectsLeaveOthers) (stores : CallsLeaveStores) (whole : CallsKeepWhole) (regions : RegionsAreKept) where
-  module _ (s : State) (ready : IsReady s.registers s.pcc s.content) where
-    -- after its instruction it has one page
-    one-page : HasOnePage (effect s process_region).after.content
-    one-page page other = leave.pages s process_region process_region page ∙ ready.page page other
+module _ (keeps : EffectsKeepRunning) (change : FaultsChangeNothing) (stores : CallsLeaveStores) (whole : CallsKeepWhole) (regions : RegionsAreKept) where
+  -- after a call that it makes, or goes on with
+  module _ (s : State) (done : ℕ) (runs : MayRun process_region s) (held : IsTrue (holds s.pcc.bits (address_of s.pcc.bits) 4)) where
+    called-whole : IsWhole (call_effect s.registers s.content done).content
+    called-whole = call-holds IsWhole s.registers s.content done runs.whole (λ at count. whole.prepare s.content process_region at count Read runs.whole)
 
-    called-whole : IsWhole (call_effect (effect s process_region).after.registers (effect s process_region).after.content).content
-    called-whole =
-        let t = keeps.runs s process_region ready.runs in
-        call-holds IsWhole (effect s process_region).after.registers (effect s process_region).after.content t.whole
-        (λ at count. whole.prepare (effect s process_region).after.content process_region at count Read t.whole)
+    by-called : (piece : List ℕ) (result : Called) → Fits s.registers result → IsFine (after_call s (call_effect s.registers s.content done).content piece result)
+    by-called piece (Answered value) fits ended = record {
+      runs = same-runs (with_register s.registers 10 (from_int value)) (next_pcc s.pcc) s.content (call_effect s.registers s.content done).content (stores s.registers s.content done) called-whole
+          (keeps.answered s process_region 10 value runs held fits);
+      underway = tt;
+    }
+    by-called piece (Writing d) fits ended = record {
+      runs = same-runs s.registers s.pcc s.content (call_effect s.registers s.content done).content (stores s.registers s.content done) called-whole runs;
+      underway = record { call = fits.0; fewer = fits.1; held = held };
+    }
+    by-called piece (Ended status) fits ended = absurd (cc)
 
-    by-called : (effect s process_region).end ≡ Call → (piece : List ℕ) (result : Called) → IsSmall result
-        → IsFine (after_call (effect s process_region).after (call_effect (effect s process_region).after.registers (effect s process_region).after.content).content piece result)
-    by-called is piece (Answered value) small ended =
-        let t = (effect s process_region).after in
-        let same = stores t.registers t.content in
-        record {
-          runs = same-runs (with_register t.registers 10 (from_int value)) (next_pcc t.pcc) t.content (call_effect t.registers t.content).content same called-whole
-              (keeps.answered s process_region 10 value ready.runs is small);
-          page = same-page t.content (call_effect t.registers t.content).content same one-page;
-        }
-    by-called is piece (Ended status) small ended = absurd (cc)
+    called-fine : IsFewer s.registers done → IsFine (called s done)
+    called-fine fewer = by-called _ _ (call-fits s.registers s.content done fewer)
 
+  -- after an instruction
+  module _ (s : State) (runs : MayRun process_region s) where
     by-end : (end : StepEnd) → (effect s process_region).end ≡ end → IsFine (after_instruction (effect s process_region).after end)
-    by-end Next is ended = record { runs = keeps.runs s process_region ready.runs; page = one-page }
-    by-end Call is ended = by-called is _ _ (call-small _ _) ended
+    by-end Next is ended = record { runs = keeps.runs s process_region runs; underway = tt }
+    by-end Call is ended =
+        let t = (effect s process_region).after in
+        let held : IsTrue (holds t.pcc.bits (address_of t.pcc.bits) 4) = rw ((change.calls s process_region is).pcc) (change.bounds s process_region is) in
+        called-fine t 0 (keeps.runs s process_region runs) held (λ none. absurd (omega arith)) ended
     by-end (Fault cause) is ended = absurd (cc)
 
-    pub worked-fine : IsFine (worked s)
-    unfolding worked
-    worked-fine = by-end (effect s process_region).end refl
+    instructed-fine : IsFine (instructed s)
+    unfolding instructed
+    instructed-fine = by-end (effect s process_region).end refl
+
+  -- so after a step
+  worked-fine : (s : State) (writing : Option ℕ) → IsReady s.registers s.pcc writing s.content → IsFine (worked s writing)
+  worked-fine s None ready = instructed-fine s ready.runs
+  worked-fine s (Some done) ready = called-fine s done ready.runs ready.underway.held (λ some. ready.underway.fewer)
 
   -- A process that ended has no store.
   abbrev IsGone : ℕ → Work → Type 0
@@ -140,6 +170,7 @@ module _ (keeps : EffectsKeepRunning) (leave : EffectsLeaveOthers) (stores : Cal
 
   call-gone : (status : ℕ) (s : State) (c : Content) (piece : List ℕ) (result : Called) → IsGone status (after_call s c piece result)
   call-gone status s c piece (Answered value) ended = absurd (cc)
+  call-gone status s c piece (Writing done) ended = absurd (cc)
   call-gone status s c piece (Ended given) ended = gone c
 
   end-gone : (status : ℕ) (s : State) (end : StepEnd) → IsGone status (after_instruction s end)
@@ -147,22 +178,24 @@ module _ (keeps : EffectsKeepRunning) (leave : EffectsLeaveOthers) (stores : Cal
   end-gone status s Call ended = call-gone status s _ _ _ ended
   end-gone status s (Fault cause) ended = gone s.content
 
-  worked-gone : (status : ℕ) (s : State) → IsGone status (worked s)
-  unfolding worked
-  worked-gone status s = end-gone status (effect s process_region).after (effect s process_region).end
+  worked-gone : (status : ℕ) (s : State) (writing : Option ℕ) → IsGone status (worked s writing)
+  unfolding instructed
+  worked-gone status s None = end-gone status (effect s process_region).after (effect s process_region).end
+  worked-gone status s (Some done) = call-gone status s _ _ _
 
-  some-ended : (o : Option ℕ) (status : ℕ) → o ≡ Some status → Rattle.std.specs.Prelude.not (is_some o) ≡ false
+  some-ended : (o : Option ℕ) (status : ℕ) → o ≡ Some status → not (is_some o) ≡ false
   some-ended None status e = absurd (cc)
   some-ended (Some given) status e = refl
 
-  pub steps-gone : (m : Machine) (status : ℕ) → (step_of m).ended ≡ Some status → ((step_of m).after.live ≡ false) × HasNoStore process_region (step_of m).after.content
-  steps-gone m status ended =
-      (some-ended (worked (state m.registers m.pcc m.content)).ended status ended, worked-gone status (state m.registers m.pcc m.content) ended)
+  abbrev work-of : Machine → Work
+  work-of m = worked (state m.registers m.pcc m.content) m.writing
 
-  none-ended : (o : Option ℕ) → Rattle.std.specs.Prelude.not (is_some o) ≡ true → o ≡ None
+  pub steps-gone : (m : Machine) (status : ℕ) → (step_of m).ended ≡ Some status → ((step_of m).after.live ≡ false) × HasNoStore process_region (step_of m).after.content
+  steps-gone m status ended = (some-ended (work-of m).ended status ended, worked-gone status (state m.registers m.pcc m.content) m.writing ended)
+
+  none-ended : (o : Option ℕ) → not (is_some o) ≡ true → o ≡ None
   none-ended None h = refl
   none-ended (Some status) h = absurd (false≢true h)
 
   pub steps-sound : (m : Machine) → m.live ≡ true → IsSound m → IsSound (step_of m).after
-  steps-sound m live sound still =
-      worked-fine (state m.registers m.pcc m.content) (sound live) (none-ended (worked (state m.registers m.pcc m.content)).ended still)
+  steps-sound m live sound still = worked-fine (state m.registers m.pcc m.content) m.writing (sound live) (none-ended (work-of m).ended still)

@@ -3,9 +3,10 @@ use Rattle.std.specs.Prelude.{ℕ, List, [], ◌∷◌, Bool, false, ◌&&◌, n
 use Rattle.std.specs.declared.option.Option.{Option}
 use Rattle.outside_io.specs.Answers.{Answer, refusal}
 use Rattle.outside_io.specs.Moments.{Course, steady}
-use Rattle.elf_loader.specs.FirstImage.{is_first_image}
+use Rattle.cap_format.specs.declared.image.ImageFault.{ImageFault}
+use Rattle.cap_format.specs.Image.{fault_of}
 use Rattle.ufork_program.specs.Numbers.{most_steps}
-use Rattle.ufork_program.specs.Lines.{usage_line, cannot_read_line, not_built_line}
+use Rattle.ufork_program.specs.Lines.{usage_line, cannot_read_line, image_refused_line}
 use Rattle.ufork_program.specs.Machine.{Machine}
 use Rattle.ufork_program.specs.Run.{run_course}
 
@@ -28,19 +29,21 @@ usage = refusal 2 usage_line
 abbrev pub cannot_read : List ℕ → Answer
 cannot_read name = refusal 3 (cannot_read_line name)
 
-abbrev pub not_built : Answer
-not_built = refusal 19 not_built_line
+abbrev pub image_refused : ImageFault → Answer
+image_refused fault = refusal 4 (image_refused_line fault)
 
 -- no machine stands while this is answered
 abbrev pub refused : Answer → Course (Option Machine)
 refused = steady None
 
-abbrev pub content_course : List ℕ → Course (Option Machine)
-content_course content = if is_first_image content then run_course content most_steps else refused not_built
+-- an image is run, and every other file is refused by the first rule that it breaks
+abbrev pub image_course : List ℕ → Option ImageFault → Course (Option Machine)
+image_course file None = run_course file most_steps
+image_course file (Some fault) = refused (image_refused fault)
 
 abbrev pub file_course : List ℕ → Option (List ℕ) → Course (Option Machine)
 file_course name None = refused (cannot_read name)
-file_course name (Some content) = content_course content
+file_course name (Some content) = image_course content (fault_of content)
 
 abbrev pub word_course : Option (List ℕ) → (List ℕ → Option (List ℕ)) → Course (Option Machine)
 word_course None contents = refused usage

@@ -1,5 +1,5 @@
 -- What a call of the program promises.
-use Rattle.std.specs.Prelude.{◌≡◌, ◌≢◌, ℕ, ◌⊎◌, Bool, true, false, IsTrue, List, [], ◌∷◌, Contains, Some, None, IfSome}
+use Rattle.std.specs.Prelude.{◌≡◌, ◌≢◌, ℕ, ◌⊎◌, Bool, true, false, List, [], ◌∷◌, Contains, Some, None, IfSome}
 use Rattle.std.specs.declared.option.Option.{Option}
 use Rattle.outside_io.specs.Faults.{Rose}
 use Rattle.outside_io.specs.States.{Outside, NoneRose, SinksStill, SinkRose, CountsBelowLast}
@@ -10,12 +10,13 @@ use Rattle.stores.specs.declared.board.Board.{Board}
 use Rattle.stores.specs.Boards.{IsEmpty, Stands}
 use Rattle.cap_format.specs.Numbers.{most_frames}
 use Rattle.machine_types.specs.declared.config.Rule.TheVariants.{Full}
-use Rattle.elf_loader.specs.FirstImage.{is_first_image}
+use Rattle.cap_format.specs.declared.image.ImageFault.{ImageFault}
+use Rattle.cap_format.specs.Image.{IsImage}
 use Rattle.ufork_program.specs.Numbers.{most_steps}
 use Rattle.ufork_program.specs.Machine.{Machine, start}
 use Rattle.ufork_program.specs.Run.{run_course, run_end}
-use Rattle.ufork_program.specs.Answer.{course, file_word, cannot_read, refused}
-use Rattle.ufork_program.specs.Request.{course_of, IsUsable, IsRequestOf, HasWordsCause, HasFilesCause}
+use Rattle.ufork_program.specs.Answer.{course, file_word, cannot_read, image_refused, refused}
+use Rattle.ufork_program.specs.Request.{course_of, Names, NamesNoImage, IsUsable, IsRequestOf, HasWordsCause, HasFilesCause}
 use Rattle.ufork_program.specs.declared.request.Request.{Request}
 
 -- A call of the program: its words, what stood outside before and after it, the board that it was handed and the one that it
@@ -55,11 +56,15 @@ pub record WentWhole (call : Call) (c : Course (Option Machine)) : Type 0 where
 abbrev pub WasCut : Call → Course (Option Machine) → Type 0
 WasCut call c = CutAt c.moments (Left call) (console_of call.old) (console_of call.new)
 
--- A fact of the course for the contents of the files: for those that are told, and for some where none are.
-pub record OfCourse (call : Call) (P : Course (Option Machine) → Type 0) : Type 0 where
+-- A fact of the contents of the files: of those that are told, and of some where none are.
+pub record OfContents (call : Call) (P : (List ℕ → Option (List ℕ)) → Type 0) : Type 0 where
   pub contents : List ℕ → Option (List ℕ)
   pub told : IfSome call.old.files.contents (λ told. contents ≡ told)
-  pub holds : P (course call.words contents)
+  pub holds : P contents
+
+-- a fact of the course for the words and these contents
+abbrev pub OfCourse : Call → (Course (Option Machine) → Type 0) → Type 0
+OfCourse call P = OfContents call (λ contents. P (course call.words contents))
 
 -- memory was wanted, and nothing was written or run
 abbrev pub WantedMemory : Call → Type 0
@@ -88,19 +93,25 @@ pub record CourseCut (call : Call) : Type 0 where
   pub kept : call.new.files.faults ≡ call.old.files.faults
   pub cut : OfCourse call (WasCut call)
 
--- A first image was run: its process is live after the most steps, or it ended by then. Its parts are written, and the board
--- stands for the machine there.
+-- The file that the words name is an image, which was run: its process is live after the most steps, or it ended by then. Its parts
+-- are written, and the board stands for the machine there.
 pub record Ran (live : Bool) (call : Call) : Type 0 where
-  pub image : List ℕ
-  pub first : IsTrue (is_first_image image)
-  pub live_is : (run_end (start Full most_frames image) most_steps).live ≡ live
-  pub course_is : OfCourse call (λ c. c ≡ run_course image most_steps)
-  pub written : HasWritten call (run_course image most_steps)
-  pub left : Stands call.left (run_end (start Full most_frames image) most_steps).content
+  pub file : List ℕ
+  pub named : OfContents call (λ contents. Names call.words contents file)
+  pub image : IsImage file
+  pub live_is : (run_end (start Full most_frames file) most_steps).live ≡ live
+  pub written : HasWritten call (run_course file most_steps)
+  pub left : Stands call.left (run_end (start Full most_frames file) most_steps).content
+
+-- The file that the words name is no image. It was refused by the first rule that it breaks, in one line, and nothing was run.
+pub record TellsOfImage (call : Call) : Type 0 where
+  pub fault : ImageFault
+  pub named : OfContents call (λ contents. NamesNoImage call.words contents fault)
+  pub whole : WentWhole call (refused (image_refused fault))
 
 -- the statuses that there are
 abbrev pub statuses : List ℕ
-statuses = 0 ∷ 2 ∷ 3 ∷ write_fault ∷ 8 ∷ memory_wanted.status ∷ 19 ∷ []
+statuses = 0 ∷ 2 ∷ 3 ∷ 4 ∷ write_fault ∷ 8 ∷ memory_wanted.status ∷ []
 
 -- What the call promises.
 pub record Promises (call : Call) : Type 0 where
@@ -121,6 +132,8 @@ pub record Promises (call : Call) : Type 0 where
   pub no_command : file_word call.words ≡ None → call.status ≢ write_fault → call.status ≡ 2
   -- 3 comes only where the file failed, and names it.
   pub file_failed : call.status ≡ 3 → TellsOfFile call
+  -- 4 comes only where the file is no image, and names the first rule that it breaks.
+  pub image_refused : call.status ≡ 4 → TellsOfImage call
   -- 7 comes only where a sink failed.
   pub sink_failed : call.status ≡ write_fault → SinkRose call.old call.new
   -- Where a count rose, and all stood below their last values, the status is that of the fault.

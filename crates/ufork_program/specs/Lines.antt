@@ -1,5 +1,8 @@
 -- The lines that are printed on the errors.
 use Rattle.std.specs.Prelude.{ℕ, List, ◌++◌, codes, decimal}
+use Rattle.cap_format.specs.declared.image.ImageFault.{ImageFault}
+use Rattle.cap_format.specs.declared.image.ImageReason.{ImageReason}
+use Rattle.cap_format.specs.declared.image.ImageReason.TheVariants.{TooLong, Truncated, BadMagic, BadHeader, UnknownType, BadFlags, BadAddress, BadSize, Overlap, SecondTable, FileRange, NoSegment, BadEntry, BadPlace, BadBounds, BadOffset, BadPerms}
 
 -- the process of this id ended with this status
 abbrev pub exit_line : ℕ → ℕ → List ℕ
@@ -21,6 +24,26 @@ usage_line = codes "ufork: usage\n"
 abbrev pub cannot_read_line : List ℕ → List ℕ
 cannot_read_line name = codes "ufork: cannot read " ++ (name ++ codes "\n")
 
--- the file isn't an image of the one form that is run so far
-abbrev pub not_built_line : List ℕ
-not_built_line = codes "ufork: not built\n"
+-- the text of a reason
+abbrev pub reason_text : ImageReason → List ℕ
+reason_text TooLong = codes "TooLong"
+reason_text Truncated = codes "Truncated"
+reason_text BadMagic = codes "BadMagic"
+reason_text BadHeader = codes "BadHeader"
+reason_text UnknownType = codes "UnknownType"
+reason_text BadFlags = codes "BadFlags"
+reason_text BadAddress = codes "BadAddress"
+reason_text BadSize = codes "BadSize"
+reason_text Overlap = codes "Overlap"
+reason_text SecondTable = codes "SecondTable"
+reason_text FileRange = codes "FileRange"
+reason_text NoSegment = codes "NoSegment"
+reason_text BadEntry = codes "BadEntry"
+reason_text BadPlace = codes "BadPlace"
+reason_text BadBounds = codes "BadBounds"
+reason_text BadOffset = codes "BadOffset"
+reason_text BadPerms = codes "BadPerms"
+
+-- the file is no image
+abbrev pub image_refused_line : ImageFault → List ℕ
+image_refused_line fault = codes "ufork: image refused: " ++ (reason_text fault.reason ++ (codes " at " ++ (decimal fault.place ++ codes "\n")))

@@ -33,9 +33,9 @@ course_from m limit =
     let end = run_end m limit in
     record { status = status_at end; moments = run_moments m limit ++ (err_part (last_line end), Some end) ∷ []; end = Some end }
 
--- the run of an image, on so many frames
+-- the run of the image in a file
 abbrev pub run_course : List ℕ → ℕ → Course (Option Machine)
-run_course image limit = course_from (start Full most_frames image) limit
+run_course file limit = course_from (start Full most_frames file) limit
 
 -- the machine after so many steps
 unfoldable pub state_after : Machine → ℕ → Machine

@@ -1,5 +1,5 @@
 // The system calls.
-ghost use Rattle.std.specs.Prelude.{◌≡◌, ◌≤◌, ◌+◌, [], IsTrue};
+ghost use Rattle.std.specs.Prelude.{◌≡◌, ◌<◌, ◌≤◌, ◌+◌, [], IsTrue};
 ghost use Rattle.cap_format.specs.Pattern.{address_of};
 ghost use Rattle.cap_format.specs.Region.{IsInside};
 ghost use Rattle.machine_types.specs.Registers.{AreInside};
@@ -7,13 +7,12 @@ ghost use Rattle.machine_types.specs.declared.touches.Access.TheVariants.{Read};
 ghost use Rattle.contents.specs.Content.{Content};
 ghost use Rattle.contents.specs.Conditions.{Covers};
 ghost use Rattle.stores.specs.Known.{StandsFor, Any};
-ghost use Rattle.ufork_program.specs.Machine.{HasOnePage};
-ghost use Rattle.ufork_program.specs.Calls.{is_readable, refuses, sent, written, call_effect, place_of, killed_by, HasCalled, IsPlaced};
+ghost use Rattle.ufork_program.specs.Calls.{is_readable, refuses, sent, written, call_effect, after_transfer, place_of, killed_by, HasCalled, IsPlaced, IsFewer};
 
-use crate::PROCESS_REGION;
 use crate::piece::Piece;
 use cap_format::{Cap, FIRST_REGION, LOAD, REGION_BYTES};
 use contents::covers_each_byte;
+use elf_loader::PROCESS_REGION;
 use machine_types::{Access, Cause, Errno, Regs};
 use stores::{MOST_TRANSFER, Stores};
 
@@ -30,6 +29,8 @@ const CONSOLE_OUTPUT: u64 = 1;
 pub enum Called {
     /// It answers a number in x10.
     Answered { value: u64 },
+    /// A write goes on, of which so many bytes are done.
+    Writing { done: u64 },
     /// The process ends with this status.
     Ended { status: u32 },
 }
@@ -66,21 +67,30 @@ fn is_readable<S: Stores>(space: &S, authority: Cap, count: u64) -> bool
         && space.covers(PROCESS_REGION, place_of(authority), count, Access::Read)
 }
 
-// Prints bytes that may be read, after the touches of their pages.
-fn send<S: Stores>(space: &mut S, at: u64, count: usize, piece: &mut Piece) -> Called
-    requires least { 1 ≤ count }
-    requires most { count ≤ MOST_TRANSFER }
+// A write is answered when all its bytes are done.
+fn after_transfer(count: u64, done: u64) -> Called
+    ensures { result ≡ after_transfer count done }
+{
+    if done == count {
+        Called::Answered { value: count }
+    } else {
+        Called::Writing { done }
+    }
+}
+
+// Prints the next bytes of a write of `count` bytes, which may all be read, after the touches of their pages.
+fn send<S: Stores>(space: &mut S, at: u64, count: u64, done: u64, piece: &mut Piece) -> Called
+    requires fewer { done < count }
     requires within { at + count ≤ REGION_BYTES }
     requires covered { ∥ StandsFor S.stands_for space.old (Covers PROCESS_REGION at count Read) ∥₁ }
     requires empty { piece.old ≡ [] }
-    ensures { (c : Content) → S.stands_for space.old c → HasCalled (sent c at count) result piece.new (S.stands_for space.new) }
+    ensures { (c : Content) → S.stands_for space.old c → HasCalled (sent c at count done) result piece.new (S.stands_for space.new) }
 {
-    match space.prepare(PROCESS_REGION, at, count, Access::Read) {
+    let size = (count - done).min(MOST_TRANSFER as u64);
+    match space.prepare(PROCESS_REGION, at + done, size as usize, Access::Read) {
         Ok(_) => {
-            piece.fill(space, at, count);
-            Called::Answered {
-                value: count as u64,
-            }
+            piece.fill(space, at + done, size as usize);
+            after_transfer(count, done + size)
         }
         Err(_) => Called::Ended {
             status: killed_by(Cause::NoFrame),
@@ -95,12 +105,13 @@ pub fn killed_by(cause: Cause) -> u32
     256 + cause.number()
 }
 
-// write(x10, c11, x12)
-fn write_call<S: Stores>(regs: &Regs, space: &mut S, piece: &mut Piece) -> Called
+// write(x10, c11, x12), of which so many bytes are done
+fn write_call<S: Stores>(regs: &Regs, done: u64, space: &mut S, piece: &mut Piece) -> Called
     requires inside { AreInside regs.now PROCESS_REGION }
-    requires page { ∥ StandsFor S.stands_for space.old HasOnePage ∥₁ }
+    requires fewer { IsFewer regs.now done }
+    requires some { ∥ StandsFor S.stands_for space.old Any ∥₁ }
     requires empty { piece.old ≡ [] }
-    ensures { (c : Content) → S.stands_for space.old c → HasCalled (written regs.now c) result piece.new (S.stands_for space.new) }
+    ensures { (c : Content) → S.stands_for space.old c → HasCalled (written regs.now c done) result piece.new (S.stands_for space.new) }
 {
     covers_each_byte();
     if regs.get(10).address() != CONSOLE_OUTPUT {
@@ -114,17 +125,16 @@ fn write_call<S: Stores>(regs: &Regs, space: &mut S, piece: &mut Piece) -> Calle
     if !is_readable(space, authority, count) {
         return refused(Errno::Efault);
     }
-    send(space, place_of(authority), count as usize, piece)
+    send(space, place_of(authority), count, done, piece)
 }
 
-/// Does the call whose number is in x17, with an empty piece.
-///
-/// The process has one page, so no more than [`MOST_TRANSFER`] bytes can be read for it.
-pub fn call<S: Stores>(regs: &Regs, space: &mut S, piece: &mut Piece) -> Called
+/// Does the call whose number is in x17, or goes on with it where it is a write of which so many bytes are done. The piece is empty.
+pub fn call<S: Stores>(regs: &Regs, done: u64, space: &mut S, piece: &mut Piece) -> Called
     requires inside { AreInside regs.now PROCESS_REGION }
-    requires page { ∥ StandsFor S.stands_for space.old HasOnePage ∥₁ }
+    requires fewer { IsFewer regs.now done }
+    requires some { ∥ StandsFor S.stands_for space.old Any ∥₁ }
     requires empty { piece.old ≡ [] }
-    ensures { (c : Content) → S.stands_for space.old c → HasCalled (call_effect regs.now c) result piece.new (S.stands_for space.new) }
+    ensures { (c : Content) → S.stands_for space.old c → HasCalled (call_effect regs.now c done) result piece.new (S.stands_for space.new) }
 {
     let number = regs.get(17).address();
     if number == EXIT {
@@ -133,7 +143,7 @@ pub fn call<S: Stores>(regs: &Regs, space: &mut S, piece: &mut Piece) -> Called
         };
     }
     if number == WRITE {
-        return write_call(regs, space, piece);
+        return write_call(regs, done, space, piece);
     }
     refused(Errno::Enosys)
 }

@@ -1,7 +1,7 @@
 // The kernel: one process over a space of stores.
-ghost use Rattle.std.specs.Prelude.{◌≡◌, ℕ, ◌≤◌, ◌<◌, ◌+◌, ◌^◌, IsTrue, [], length};
+ghost use Rattle.std.specs.Prelude.{◌≡◌, ℕ, ◌≤◌, ◌<◌, ◌+◌, ◌^◌, IsTrue, [], None, Ok};
 ghost use Rattle.cap_format.specs.Code.{IsCode};
-ghost use Rattle.cap_format.specs.Made.{root};
+ghost use Rattle.cap_format.specs.Numbers.{region_pages};
 ghost use Rattle.cap_format.specs.Pattern.{address_of};
 ghost use Rattle.cap_format.specs.Region.{IsInside};
 ghost use Rattle.cap_format.specs.Rights.{holds};
@@ -11,25 +11,27 @@ ghost use Rattle.contents.specs.Conditions.{HasStore};
 ghost use Rattle.contents.specs.Content.{Content, nothing};
 ghost use Rattle.stores.specs.Known.{StandsFor};
 ghost use Rattle.cheri_step.specs.Effect.{state};
-ghost use Rattle.ufork_program.specs.Machine.{first_content, HasOnePage, IsReady};
-ghost use Rattle.ufork_program.specs.Steps.{called, worked, HasWorked};
+ghost use Rattle.elf_loader.specs.Loaded.{IsRead};
+ghost use Rattle.ufork_program.specs.Calls.{IsFewer};
+ghost use Rattle.ufork_program.specs.Machine.{IsReady};
+ghost use Rattle.ufork_program.specs.Steps.{called, instructed, worked, HasWorked};
 ghost use Rattle.ufork_program.specs.Kernel.{IsFresh};
 
 use crate::calls::{Called, call, killed_by};
 use crate::laws::{calls_leave_stores, steps_stay_sound};
 use crate::piece::Piece;
-use crate::{CODE_PERMISSIONS, DATA_PERMISSIONS, IMAGE_RIGHTS, PROCESS_REGION};
-use cap_format::Cap;
-use cheri_step::{StepEnd, effects_leave_others, faults_change_nothing, next_pcc, step_instr};
-use elf_loader::{FIRST_IMAGE_BYTES, HEADER_BYTES};
+use cap_format::{Cap, images_are_sound};
+use cheri_step::{StepEnd, faults_change_nothing, next_pcc, step_instr};
+use elf_loader::{Image, PROCESS_REGION, StartState, start, starts_are_exact, starts_may_run};
 use machine_types::Regs;
 use stores::Stores;
 
-/// A process in region 0 of a space, with one page.
+/// A process in region 0 of a space.
 pub struct Kernel<S> {
     regs: Regs,
     pcc: Cap,
     space: S,
+    writing: Option<u64>,
     live: bool,
     steps: u64,
     piece: Piece,
@@ -40,24 +42,27 @@ impl<S: Stores> Kernel<S> {
     ghost use Rattle.ufork_program.specs.Steps.{step_of};
     ghost use Rattle.ufork_program.specs.Kernel.{KernelStands, StandsForSome};
 
-    /// The process at its start, for an image of [`HEADER_BYTES`] to [`FIRST_IMAGE_BYTES`] bytes: the headers, and then the page.
-    /// In the space no region has a store, and a frame is free.
-    pub fn boot(image: &[u8], space: S) -> Kernel<S>
-        requires long { HEADER_BYTES ≤ length image.now }
-        requires short { length image.now ≤ FIRST_IMAGE_BYTES }
+    /// The process at its start, for an image that was read from these bytes. In the space no region has a store, and a frame is free
+    /// for each page of a region.
+    pub fn boot(image: &Image, bytes: &[u8], space: S) -> Kernel<S>
+        requires read { IsRead bytes.now (Ok image.now) }
         requires fresh { ∥ StandsFor S.stands_for space IsFresh ∥₁ }
-        ensures stands { (rule : Rule) (frames : ℕ) → 0 < frames → S.stands_for space (nothing rule frames) → KernelStands S.stands_for result (start rule frames image.now) }
+        ensures stands { (rule : Rule) (frames : ℕ) → region_pages ≤ frames → S.stands_for space (nothing rule frames) → KernelStands S.stands_for result (start rule frames bytes.now) }
         ensures sound { ∥ StandsForSome S.stands_for result IsSound ∥₁ }
         ensures begun { result.steps ≡ 0 }
     {
+        images_are_sound();
+        starts_are_exact();
+        starts_may_run();
         let mut space = space;
-        add_image(&mut space, image);
-        let mut regs = Regs::new();
-        regs.put(2, Cap::root(PROCESS_REGION, DATA_PERMISSIONS));
+        let Ok(StartState { regs, pcc }) = start(image, bytes, &mut space) else {
+            unreachable!()
+        };
         Kernel {
             regs,
-            pcc: first_pcc(),
+            pcc,
             space,
+            writing: None,
             live: true,
             steps: 0,
             piece: Piece::new(),
@@ -101,6 +106,7 @@ impl<S: Stores> Kernel<S> {
         let ended = work(
             &mut self.regs,
             &mut self.pcc,
+            &mut self.writing,
             &mut self.space,
             &mut self.piece,
         );
@@ -117,6 +123,7 @@ impl<S: Stores> Kernel<S> {
             regs: _regs,
             pcc: _pcc,
             space,
+            writing: _writing,
             live: _live,
             steps: _steps,
             piece: _piece,
@@ -125,38 +132,42 @@ impl<S: Stores> Kernel<S> {
     }
 }
 
-// PCC at the start: the region's capability for code, at its first byte.
-fn first_pcc() -> Cap
-    ensures is { result ≡ root PROCESS_REGION CODE_PERMISSIONS }
-    ensures code { IsCode result }
-    ensures inside { IsInside result.bits PROCESS_REGION }
-    ensures pattern { result.bits < 2 ^ 128 }
-{
-    Cap::root(PROCESS_REGION, CODE_PERMISSIONS)
-}
-
-// Gives region 0 the page of an image.
-fn add_image<S: Stores>(space: &mut S, image: &[u8])
-    requires long { HEADER_BYTES ≤ length image.now }
-    requires short { length image.now ≤ FIRST_IMAGE_BYTES }
-    requires fresh { ∥ StandsFor S.stands_for space.old IsFresh ∥₁ }
-    ensures { (rule : Rule) (frames : ℕ) → 0 < frames → S.stands_for space.old (nothing rule frames) → S.stands_for space.new (first_content rule frames image.now) }
-{
-    space.begin(PROCESS_REGION);
-    let _added = space.add_page(PROCESS_REGION, 0, IMAGE_RIGHTS, &image[HEADER_BYTES..]);
-}
-
-// One instruction, and the call that it may be. The answer is the status with which the process ended, if it did.
-fn work<S: Stores>(regs: &mut Regs, pcc: &mut Cap, space: &mut S, piece: &mut Piece) -> Option<u32>
-    requires ready { ∥ StandsFor S.stands_for space.old (IsReady regs.old pcc.old) ∥₁ }
+// A step: it goes on with the write that is underway, and is an instruction where none is. The answer is the status with which the
+// process ended, if it did.
+fn work<S: Stores>(
+    regs: &mut Regs,
+    pcc: &mut Cap,
+    writing: &mut Option<u64>,
+    space: &mut S,
+    piece: &mut Piece,
+) -> Option<u32>
+    requires ready { ∥ StandsFor S.stands_for space.old (IsReady regs.old pcc.old writing.old) ∥₁ }
     requires empty { piece.old ≡ [] }
-    ensures { (c : Content) → S.stands_for space.old c → HasWorked (worked (state regs.old pcc.old c)) result regs.new pcc.new piece.new (S.stands_for space.new) }
+    ensures { (c : Content) → S.stands_for space.old c → HasWorked (worked (state regs.old pcc.old c) writing.old) result regs.new pcc.new writing.new piece.new (S.stands_for space.new) }
+{
+    match *writing {
+        Some(done) => answer_call(regs, pcc, done, writing, space, piece),
+        None => instruct(regs, pcc, writing, space, piece),
+    }
+}
+
+// One instruction, and the call that it may be.
+fn instruct<S: Stores>(
+    regs: &mut Regs,
+    pcc: &mut Cap,
+    writing: &mut Option<u64>,
+    space: &mut S,
+    piece: &mut Piece,
+) -> Option<u32>
+    requires ready { ∥ StandsFor S.stands_for space.old (IsReady regs.old pcc.old writing.old) ∥₁ }
+    requires none { writing.old ≡ None }
+    requires empty { piece.old ≡ [] }
+    ensures { (c : Content) → S.stands_for space.old c → HasWorked (instructed (state regs.old pcc.old c)) result regs.new pcc.new writing.new piece.new (S.stands_for space.new) }
 {
     faults_change_nothing();
-    effects_leave_others();
     match step_instr(regs, pcc, PROCESS_REGION, space).end {
         StepEnd::Next => None,
-        StepEnd::Call => answer_call(regs, pcc, space, piece),
+        StepEnd::Call => answer_call(regs, pcc, 0, writing, space, piece),
         StepEnd::Fault(cause) => {
             space.end(PROCESS_REGION);
             Some(killed_by(cause))
@@ -164,10 +175,12 @@ fn work<S: Stores>(regs: &mut Regs, pcc: &mut Cap, space: &mut S, piece: &mut Pi
     }
 }
 
-// Does a call, and moves PCC past it where it answers.
+// Does a call of which so many bytes are done. PCC moves past it where it answers, and stays at a write that goes on.
 fn answer_call<S: Stores>(
     regs: &mut Regs,
     pcc: &mut Cap,
+    done: u64,
+    writing: &mut Option<u64>,
     space: &mut S,
     piece: &mut Piece,
 ) -> Option<u32>
@@ -175,16 +188,21 @@ fn answer_call<S: Stores>(
     requires held { IsTrue (holds pcc.old.bits (address_of pcc.old.bits) 4) }
     requires counter { IsInside pcc.old.bits PROCESS_REGION }
     requires inside { AreInside regs.old PROCESS_REGION }
+    requires fewer { IsFewer regs.old done }
     requires store { ∥ StandsFor S.stands_for space.old (HasStore PROCESS_REGION) ∥₁ }
-    requires page { ∥ StandsFor S.stands_for space.old HasOnePage ∥₁ }
     requires empty { piece.old ≡ [] }
-    ensures { (c : Content) → S.stands_for space.old c → HasWorked (called (state regs.old pcc.old c)) result regs.new pcc.new piece.new (S.stands_for space.new) }
+    ensures { (c : Content) → S.stands_for space.old c → HasWorked (called (state regs.old pcc.old c) done) result regs.new pcc.new writing.new piece.new (S.stands_for space.new) }
 {
     calls_leave_stores();
-    match call(regs, space, piece) {
+    *writing = None;
+    match call(regs, done, space, piece) {
         Called::Answered { value } => {
             regs.put(10, Cap::from_int(value));
             *pcc = next_pcc(*pcc);
+            None
+        }
+        Called::Writing { done } => {
+            *writing = Some(done);
             None
         }
         Called::Ended { status } => {

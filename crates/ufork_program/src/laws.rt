@@ -4,7 +4,7 @@ ghost use Rattle.ufork_program.specs.Steps.{StepsStaySound, CallsLeaveStores};
 ghost use Rattle.ufork_program.specs.Run.{RunsEndAtTheLeast};
 ghost use Rattle.ufork_program.specs.Laws.{CallsAreExact, CoursesAreExact};
 
-use cheri_step::{effects_keep_running, effects_leave_others};
+use cheri_step::{effects_keep_running, faults_change_nothing};
 use contents::{calls_keep_whole, other_stores_stay, regions_are_kept};
 
 /// The constants of this crate are the numbers that the definitions fix.
@@ -35,13 +35,13 @@ pub fn courses_are_exact()
     ensures { CoursesAreExact }
 {}
 
-/// While the process is live, a step leaves it one that may run, with no page but the first. One that ends has no store.
+/// While the process is live, a step leaves it one that may run. One that ends has no store.
 pub fn steps_stay_sound()
     ensures { StepsStaySound }
 {
     regions_are_kept();
     effects_keep_running();
-    effects_leave_others();
+    faults_change_nothing();
     calls_leave_stores();
     calls_keep_whole();
 }

@@ -1,8 +1,9 @@
 // Lines, made on the stack.
 ghost use Rattle.std.specs.Prelude.{◌≡◌, ◌+◌, ◌≤◌, ◌^◌, ◌<◌, ◌++◌, if◌then◌else◌, codes, length, decimal};
 ghost use Rattle.outside_io.specs.States.{PrintsText};
-ghost use Rattle.ufork_program.specs.Lines.{exit_line, done_line, stopped_line, cannot_read_line};
+ghost use Rattle.ufork_program.specs.Lines.{exit_line, done_line, stopped_line, cannot_read_line, reason_text, image_refused_line};
 
+use cap_format::{ImageFault, ImageReason};
 use itoa::write_digits;
 use outside_io::{Failed, Sink};
 use std::marker::Model;
@@ -117,6 +118,45 @@ fn write_name<E: Sink>(name: &str, err: &mut E) -> Result<(), Failed>
 {
     err.write(name.as_bytes())?;
     err.write(b"\n")
+}
+
+// The text of a reason.
+fn reason_text(reason: ImageReason) -> &'static [u8]
+    ensures is { result.now ≡ reason_text reason }
+    ensures short { length result.now ≤ 13 }
+{
+    match reason {
+        ImageReason::TooLong => b"TooLong",
+        ImageReason::Truncated => b"Truncated",
+        ImageReason::BadMagic => b"BadMagic",
+        ImageReason::BadHeader => b"BadHeader",
+        ImageReason::UnknownType => b"UnknownType",
+        ImageReason::BadFlags => b"BadFlags",
+        ImageReason::BadAddress => b"BadAddress",
+        ImageReason::BadSize => b"BadSize",
+        ImageReason::Overlap => b"Overlap",
+        ImageReason::SecondTable => b"SecondTable",
+        ImageReason::FileRange => b"FileRange",
+        ImageReason::NoSegment => b"NoSegment",
+        ImageReason::BadEntry => b"BadEntry",
+        ImageReason::BadPlace => b"BadPlace",
+        ImageReason::BadBounds => b"BadBounds",
+        ImageReason::BadOffset => b"BadOffset",
+        ImageReason::BadPerms => b"BadPerms",
+    }
+}
+
+/// Writes `ufork: image refused: REASON at PLACE`, by one write.
+pub fn write_image_refused<E: Sink>(fault: ImageFault, err: &mut E) -> Result<(), Failed>
+    ensures { PrintsText (image_refused_line fault) (E.state err.old) (E.state err.new) result }
+{
+    let mut line = Line::new();
+    line.put(b"\n");
+    line.put_number(fault.place);
+    line.put(b" at ");
+    line.put(reason_text(fault.reason));
+    line.put(b"ufork: image refused: ");
+    err.write(line.text())
 }
 
 /// Writes `ufork: cannot read NAME`, the name as it stands, by three writes.

@@ -6,8 +6,8 @@ ghost use Rattle.contents.specs.Conditions.{IsPrepared};
 ghost use Rattle.contents.specs.Transfers.{read_bytes_of};
 ghost use Rattle.stores.specs.Known.{StandsFor};
 
-use crate::PROCESS_REGION;
 use cap_format::REGION_BYTES;
+use elf_loader::PROCESS_REGION;
 use std::marker::Model;
 use stores::{MOST_TRANSFER, Stores};
 

@@ -1,5 +1,5 @@
 // The top call.
-ghost use Rattle.std.specs.Prelude.{◌≡◌, ◌≢◌, ◌≤◌, [], MatchResult, length, map, string_bytes};
+ghost use Rattle.std.specs.Prelude.{◌≡◌, ◌≢◌, [], Ok, MatchResult, map, string_bytes};
 ghost use Rattle.cap_format.specs.Numbers.{most_frames};
 ghost use Rattle.outside_io.specs.States.{outside};
 ghost use Rattle.outside_io.specs.Parts.{console};
@@ -8,16 +8,17 @@ ghost use Rattle.outside_io.specs.Moments.{EndsAt};
 ghost use Rattle.stores.specs.Boards.{IsEmpty, made_frames};
 ghost use Rattle.ufork_program.specs.Numbers.{most_steps};
 ghost use Rattle.ufork_program.specs.Run.{run_course};
-ghost use Rattle.ufork_program.specs.Answer.{cannot_read};
+ghost use Rattle.elf_loader.specs.Loaded.{IsRead};
+ghost use Rattle.ufork_program.specs.Answer.{cannot_read, image_refused};
 ghost use Rattle.ufork_program.specs.Request.{course_of, refusal_of, IsUsable};
 ghost use Rattle.ufork_program.specs.Headline.{call, IsLeftOn, Went, Promises};
 
 use crate::kernel::Kernel;
-use crate::lines::write_cannot_read;
+use crate::lines::{write_cannot_read, write_image_refused};
 use crate::request::{CommandRefusal, Request, read_request};
 use crate::run::print_run;
-use cap_format::MOST_FRAMES;
-use elf_loader::{FIRST_IMAGE_BYTES, HEADER_BYTES};
+use cap_format::{ImageFault, MOST_FRAMES};
+use elf_loader::Image;
 use full_space::FullSpace;
 use outside_io::{Failed, Files, Sink, Source};
 use std::alloc::Global;
@@ -53,6 +54,13 @@ fn refuse_name<O: Sink, E: Sink>(name: &str, out: &O, err: &mut E) -> Result<u8,
     Ok(3)
 }
 
+fn refuse_image<O: Sink, E: Sink>(fault: ImageFault, out: &O, err: &mut E) -> Result<u8, Failed>
+    ensures { Answers (image_refused fault) (console (O.state out.now) (E.state err.old)) (console (O.state out.now) (E.state err.new)) result }
+{
+    write_image_refused(fault, err)?;
+    Ok(4)
+}
+
 // Refuses a command: its line on the errors, and its status.
 fn refuse<O: Sink, E: Sink>(
     words: &[String],
@@ -66,22 +74,27 @@ fn refuse<O: Sink, E: Sink>(
     match refused {
         CommandRefusal::Usage => write_refusal(2, b"ufork: usage\n", out, err),
         CommandRefusal::CannotRead { place } => refuse_name(words[place].as_str(), out, err),
-        CommandRefusal::NotBuilt => write_refusal(19, b"ufork: not built\n", out, err),
+        CommandRefusal::NoImage(fault) => refuse_image(fault, out, err),
     }
 }
 
-// Runs an image on an empty board.
-fn run_image<O: Sink, E: Sink>(image: &[u8], board: Board, out: &mut O, err: &mut E) -> Ended
-    requires long { HEADER_BYTES ≤ length image.now }
-    requires short { length image.now ≤ FIRST_IMAGE_BYTES }
+// Runs an image, which was read from these bytes, on an empty board.
+fn run_image<O: Sink, E: Sink>(
+    image: &Image,
+    bytes: &[u8],
+    board: Board,
+    out: &mut O,
+    err: &mut E,
+) -> Ended
+    requires read { IsRead bytes.now (Ok image.now) }
     requires empty { IsEmpty board }
     requires made { made_frames board ≡ most_frames }
-    ensures { EndsAt (run_course image.now most_steps) (IsLeftOn board result.board)
+    ensures { EndsAt (run_course bytes.now most_steps) (IsLeftOn board result.board)
         (console (O.state out.old) (E.state err.old)) (console (O.state out.new) (E.state err.new)) result.status }
 {
     let mut board = board;
     board.set_frames(MOST_FRAMES as u32);
-    let mut kernel = Kernel::boot(image, FullSpace::new(board));
+    let mut kernel = Kernel::boot(image, bytes, FullSpace::new(board));
     let status = status_of(print_run(&mut kernel, out, err));
     Ended {
         status,
@@ -104,7 +117,7 @@ fn answer_request<O: Sink, E: Sink>(
         (console (O.state out.old) (E.state err.old)) (console (O.state out.new) (E.state err.new)) result.status }
 {
     let written = match request {
-        Request::Run { image } => return run_image(&image, board, out, err),
+        Request::Run { image, bytes } => return run_image(&image, &bytes, board, out, err),
         Request::NoMemory => Ok(10),
         Request::Refused(refusal) => refuse(words, refusal, out, err),
     };
@@ -146,9 +159,9 @@ fn read_and_write<F: Files, I: Source, O: Sink, E: Sink>(
 
 /// Does all that the program does, and gives the status with which it ends and the board.
 ///
-/// `words` are those of the command line without the program's name. So far there is one command, `run NAME`: it runs the first
-/// image in the file `NAME`, writes the console's bytes to `out`, and to `err` a line for the end of the process and one for the
-/// end of the run. A run makes at most 20000000 steps.
+/// `words` are those of the command line without the program's name. So far there is one command, `run NAME`: it runs the image in
+/// the file `NAME`, writes the console's bytes to `out`, and to `err` a line for the end of the process and one for the end of the
+/// run. A run makes at most 20000000 steps.
 ///
 /// `board` is empty and was made with [`MOST_FRAMES`] frames. It comes back as the machine's stores at the end, and empty where
 /// nothing was run.
@@ -158,10 +171,10 @@ fn read_and_write<F: Files, I: Source, O: Sink, E: Sink>(
 /// | 0 | the process ended | `exit 1 STATUS` and `done STEPS` |
 /// | 2 | the words are no command | `ufork: usage` |
 /// | 3 | the file was not read: its count of faults rose | `ufork: cannot read NAME` |
+/// | 4 | the file is no image | `ufork: image refused: REASON at PLACE` |
 /// | 7 | a write failed: the count of `out` or of `err` rose | what came before it |
 /// | 8 | the process is live after the most steps | `stopped STEPS` |
-/// | 10 | memory was wanted for the file | nothing |
-/// | 19 | the file is no first image | `ufork: not built` |
+/// | 10 | memory was wanted for the file or for the image | nothing |
 ///
 /// The input is left as it was. Each sentence of the contract is a field of `Promises`, in specs/Headline.antt.
 pub fn ufork<F: Files, I: Source, O: Sink, E: Sink>(

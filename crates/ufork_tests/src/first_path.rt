@@ -22,7 +22,12 @@ fn refusals_have_their_lines(rt: HostRuntime) -> Result<(), Fail> {
         ("run guest guest", false, 2, b"ufork: usage\n"),
         ("run no", false, 3, b"ufork: cannot read no\n"),
         ("run guest", true, 3, b"ufork: cannot read guest\n"),
-        ("run five", false, 19, b"ufork: not built\n"),
+        (
+            "run five",
+            false,
+            4,
+            b"ufork: image refused: Truncated at 5\n",
+        ),
     ];
     for (words, file_fails, status, err) in rows {
         let given = Given {
@@ -39,21 +44,6 @@ fn refusals_have_their_lines(rt: HostRuntime) -> Result<(), Fail> {
         check(&rt, &HI, given, want)?;
     }
     Ok(())
-}
-
-#[test]
-fn a_file_over_the_limit_is_not_built(rt: HostRuntime) -> Result<(), Fail> {
-    let given = Given {
-        words: "run long",
-        ..RUN
-    };
-    let want = Want {
-        status: 19,
-        out: b"",
-        err: b"ufork: not built\n",
-        left: Left::Nothing,
-    };
-    check(&rt, &HI, given, want)
 }
 
 #[test]

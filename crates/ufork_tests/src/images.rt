@@ -1,28 +1,7 @@
-// Images that are put together by hand.
+// Pages that are put together by hand, and the image of one alone.
+use crate::files::image_with_code;
 use std::alloc::Global;
 use std::test::Fail;
-
-// The bytes of the headers that aren't zero, but for the sizes, each with its place.
-const HEADERS: [(usize, u8); 18] = [
-    (0, 0x7f),
-    (1, b'E'),
-    (2, b'L'),
-    (3, b'F'),
-    (4, 2),
-    (5, 1),
-    (6, 1),
-    (16, 3),
-    (18, 243),
-    (20, 1),
-    (32, 64),
-    (52, 64),
-    (54, 56),
-    (56, 1),
-    (64, 1),
-    (68, 5),
-    (73, 16),
-    (113, 16),
-];
 
 /// The page that writes `hi` and a line end and exits with 0.
 pub const HI: [u8; 35] = [
@@ -59,29 +38,7 @@ pub fn page_of(alloc: Global, words: &[u32]) -> Result<Vec<u8>, Fail> {
     Ok(page)
 }
 
-/// The image of a page of 1 to 4096 bytes.
+/// The image of a page of 1 to 4096 bytes, which may be read and fetched, and begins with its first instruction.
 pub fn image_of(alloc: Global, page: &[u8]) -> Result<Vec<u8>, Fail> {
-    let mut image = headers(alloc)?;
-    let [low, high] = u16::try_from(page.len()).unwrap_or(0).to_le_bytes();
-    set(&mut image, 96, low);
-    set(&mut image, 97, high);
-    set(&mut image, 104, low);
-    set(&mut image, 105, high);
-    image.extend_from_slice(page)?;
-    Ok(image)
-}
-
-// The headers, without sizes.
-fn headers(alloc: Global) -> Result<Vec<u8>, Fail> {
-    let mut headers = vec![in alloc; 0_u8; 4096]?;
-    for (place, byte) in HEADERS {
-        set(&mut headers, place, byte);
-    }
-    Ok(headers)
-}
-
-fn set(bytes: &mut [u8], place: usize, byte: u8) {
-    if let Some(old) = bytes.get_mut(place) {
-        *old = byte;
-    }
+    image_with_code(alloc, page, &[], &[])
 }

@@ -1,6 +1,6 @@
 // Instructions by the names of their rows, and the pages of guests that are written in them.
 use crate::guests::bytes_of;
-use riscv_decode::{BranchOp, ImmOp, Instr, OneOp, RegOp, UpperOp};
+use riscv_decode::{BranchOp, ImmOp, Instr, LoadOp, OneOp, RegOp, StoreOp, UpperOp};
 use std::alloc::Global;
 use std::test::Fail;
 
@@ -111,6 +111,30 @@ pub fn cjal(rd: u8, imm: i32) -> Instr {
 
 pub fn cjalr(rd: u8, rs1: u8, imm: i32) -> Instr {
     Instr::Jalr { rd, rs1, imm }
+}
+
+pub fn csetbounds(rd: u8, rs1: u8, rs2: u8) -> Instr {
+    Instr::Reg {
+        op: RegOp::CSetBounds,
+        rd,
+        rs1,
+        rs2,
+    }
+}
+
+/// A row of one source.
+pub fn one(op: OneOp, rd: u8, rs1: u8) -> Instr {
+    Instr::One { op, rd, rs1 }
+}
+
+/// A load by the authority of `rs1`.
+pub fn load(op: LoadOp, rd: u8, rs1: u8, imm: i32) -> Instr {
+    Instr::Load { op, rd, rs1, imm }
+}
+
+/// A store of `rs2` by the authority of `rs1`.
+pub fn store(op: StoreOp, rs2: u8, rs1: u8, imm: i32) -> Instr {
+    Instr::Store { op, rs1, rs2, imm }
 }
 
 /// The page of a guest that prepares a write by these instructions, asks for it, and exits with the answer.

@@ -19,7 +19,7 @@ fn a_refusal_leaves_nothing(rt: HostRuntime) -> Result<(), Fail> {
     let rows: [(&'static str, u8, &'static [u8]); 3] = [
         ("run", 2, b"ufork: usage\n"),
         ("run no", 3, b"ufork: cannot read no\n"),
-        ("run five", 19, b"ufork: not built\n"),
+        ("run five", 4, b"ufork: image refused: Truncated at 5\n"),
     ];
     for (words, status, err) in rows {
         let given = Given { words, ..RUN };

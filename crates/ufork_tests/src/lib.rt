@@ -1,5 +1,5 @@
-//! Whole runs of the program over memory, and over writers that take a part of a line, with the boards that come back; and single
-//! instructions of a guest over a space.
+//! Whole runs of the program over memory, and over writers that take a part of a line, with the boards that come back; single
+//! instructions of a guest over a space; and the start of an image on few frames.
 //!
 //! The crate offers nothing: it holds the tests that need all layers.
 #![tactic(auto)]
@@ -17,9 +17,13 @@ mod console;
 #[cfg(test)]
 mod cut_lines;
 #[cfg(test)]
+mod files;
+#[cfg(test)]
 mod first_path;
 #[cfg(test)]
 mod guests;
+#[cfg(test)]
+mod image_runs;
 #[cfg(test)]
 mod images;
 #[cfg(test)]
@@ -29,10 +33,18 @@ mod jumps;
 #[cfg(test)]
 mod left_boards;
 #[cfg(test)]
+mod long_writes;
+#[cfg(test)]
 mod loops;
 #[cfg(test)]
 mod programs;
 #[cfg(test)]
+mod refused_images;
+#[cfg(test)]
+mod relocations;
+#[cfg(test)]
 mod rows;
 #[cfg(test)]
 mod runs;
+#[cfg(test)]
+mod starts;

@@ -7,9 +7,9 @@ use std::alloc::Global;
 use std::process::Abort;
 use std::test::Fail;
 use stores::Board;
-use ufork_program::ufork;
+use ufork_program::{Ended, ufork};
 
-/// What a run is given besides a page, whose image is the file `guest`. The file `five` has 5 bytes, and `long` 8193.
+/// What a run is given besides the file `guest`. The file `five` has 5 bytes.
 #[derive(Clone, Copy)]
 pub struct Given {
     /// The words, parted by single spaces. There are none where it is empty.
@@ -63,12 +63,10 @@ fn words(alloc: Global, line: &str) -> Result<Vec<String>, Fail> {
     Ok(words)
 }
 
-fn files(alloc: Global, page: &[u8], fails: bool) -> Result<MemoryFiles, Fail> {
-    let contents: [(&str, Vec<u8>); 3] = [
-        ("guest", image_of(alloc, page)?),
-        ("five", vec![in alloc; 0_u8; 5]?),
-        ("long", vec![in alloc; 0_u8; 8193]?),
-    ];
+fn files(alloc: Global, guest: &[u8], fails: bool) -> Result<MemoryFiles, Fail> {
+    let mut bytes = Vec::new(alloc);
+    bytes.extend_from_slice(guest)?;
+    let contents: [(&str, Vec<u8>); 2] = [("guest", bytes), ("five", vec![in alloc; 0_u8; 5]?)];
     let mut entries = Vec::new(alloc);
     for (name, content) in contents {
         entries.push((String::from_str(alloc, name)?, content))?;
@@ -77,27 +75,63 @@ fn files(alloc: Global, page: &[u8], fails: bool) -> Result<MemoryFiles, Fail> {
     Ok(MemoryFiles::new(entries, calls(alloc, failing)?))
 }
 
-/// Makes a run.
+/// How a run ended.
+#[derive(Drop)]
+pub struct Ran {
+    pub status: u8,
+    pub out: MemorySink,
+    pub err: MemorySink,
+    pub board: Board,
+}
+
+/// Makes a run of the file `guest` that has these bytes.
+pub fn run_file(alloc: Global, guest: &[u8], given: Given) -> Result<Ran, Fail> {
+    let words = words(alloc, given.words)?;
+    let mut files = files(alloc, guest, given.file_fails)?;
+    let mut input = MemorySource::new(Vec::new(alloc), 1, Vec::new(alloc));
+    let mut out = MemorySink::new(alloc, given.out_room, calls(alloc, given.out_fails)?)?;
+    let mut err = MemorySink::new(alloc, given.err_room, calls(alloc, given.err_fails)?)?;
+    let board = Board::new(alloc, MOST_FRAMES as u32)?;
+    let Ended { status, board } = ufork(
+        alloc, &words, &mut files, &mut input, &mut out, &mut err, board,
+    );
+    Ok(Ran {
+        status,
+        out,
+        err,
+        board,
+    })
+}
+
+/// Makes a run of a page.
 pub fn check(
     rt: &(impl Abort + AllocGlobal),
     page: &[u8],
     given: Given,
     want: Want<'_>,
 ) -> Result<(), Fail> {
-    let alloc = rt.alloc();
-    let words = words(alloc, given.words)?;
-    let mut files = files(alloc, page, given.file_fails)?;
-    let mut input = MemorySource::new(Vec::new(alloc), 1, Vec::new(alloc));
-    let mut out = MemorySink::new(alloc, given.out_room, calls(alloc, given.out_fails)?)?;
-    let mut err = MemorySink::new(alloc, given.err_room, calls(alloc, given.err_fails)?)?;
-    let board = Board::new(alloc, MOST_FRAMES as u32)?;
-    let ended = ufork(
-        alloc, &words, &mut files, &mut input, &mut out, &mut err, board,
-    );
-    assert_eq!(rt; ended.status, want.status);
-    assert_eq!(rt; out.bytes(), want.out);
-    assert_eq!(rt; err.bytes(), want.err);
-    assert_eq!(rt; left_on(&ended.board, page), Some(want.left));
+    let ran = run_file(rt.alloc(), &image_of(rt.alloc(), page)?, given)?;
+    assert_eq!(rt; ran.status, want.status);
+    assert_eq!(rt; ran.out.bytes(), want.out);
+    assert_eq!(rt; ran.err.bytes(), want.err);
+    assert_eq!(rt; left_on(&ran.board, page), Some(want.left));
+    Ok(())
+}
+
+/// Makes a run of a file, after which nothing stands on the board. `case` is told where it fails.
+pub fn check_file(
+    rt: &(impl Abort + AllocGlobal),
+    case: &str,
+    guest: &[u8],
+    given: Given,
+    want: (u8, &[u8], &[u8]),
+) -> Result<(), Fail> {
+    let ran = run_file(rt.alloc(), guest, given)?;
+    let (status, out, err) = want;
+    assert_eq!(rt; ran.err.bytes(), err, "{case}");
+    assert_eq!(rt; ran.out.bytes(), out, "{case}");
+    assert_eq!(rt; ran.status, status, "{case}");
+    assert_eq!(rt; left_on(&ran.board, &[]), Some(Left::Nothing), "{case}");
     Ok(())
 }
 

@@ -1,16 +1,14 @@
 use Rattle.std.proofs.Common.{◌≡◌, ◌∙◌, sym, ap}
 use Rattle.cap_format.specs.Numbers.{file_header_bytes}
-use Rattle.cap_format.specs.Rules.{first_fault}
-use Rattle.cap_format.specs.Image.{rules_with, headers_of, headers_at}
-use Rattle.elf_loader.specs.Tested.{front_rules}
+use Rattle.cap_format.specs.Image.{headers_of, headers_at}
 use Rattle.elf_loader.specs.Loaded.{image_with}
-use Rattle.elf_loader.proofs.Walks.{fault-some, all-rules, behind-front, none-of}
+use Rattle.elf_loader.proofs.Walks.{at-front, behind-front, none-of}
 use Rattle.elf_loader.proofs.image.read_image.Goals as goal
 
 pub returns-in-Some : goal.returns-in-Some
 returns-in-Some c =
     let file = c.args.bytes.now in
-    ap first_fault (all-rules file) ∙ fault-some (front_rules file) (rules_with file (headers_of file)) c.in-Some.fault (sym c.front_fault.ensures.is ∙ c.in-Some.is)
+    at-front file c.in-Some.fault (sym c.front_fault.ensures.is ∙ c.in-Some.is)
 
 pub returns-in-Some-rest_fault : goal.returns-in-Some-rest_fault
 returns-in-Some-rest_fault c =

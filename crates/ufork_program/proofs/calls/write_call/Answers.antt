@@ -1,32 +1,22 @@
-use Rattle.std.proofs.Common.{◌≡◌, ◌≤◌, true, false, refl, sym, ap, ◌∙◌}
-use Rattle.std.proofs.Math.Bridge.{le_prop}
-use Rattle.std.proofs.Math.Logic.{∥∥₁_elim}
+use Rattle.std.proofs.Common.{◌≡◌, true, false, refl, sym, ap, ◌∙◌}
 use Rattle.cap_format.specs.declared.cap.Cap.{Cap}
 use Rattle.cap_format.specs.Pattern.{address_of}
-use Rattle.machine_types.specs.declared.touches.Access.TheVariants.{Read}
 use Rattle.machine_types.specs.Registers.{register}
-use Rattle.stores.specs.Known.{StandsFor, Any}
-use Rattle.stores.proofs.Keeping.{stands-weaker}
-use Rattle.ufork_program.specs.Numbers.{process_region}
-use Rattle.ufork_program.specs.Machine.{HasOnePage}
 use Rattle.ufork_program.specs.Calls.{integer, is_readable}
-use Rattle.ufork_program.proofs.CallLemmas.{written-closed, written-nothing, written-unreadable, written-sent, called-as, one-page-most, readable-covered}
+use Rattle.ufork_program.proofs.CallLemmas.{written-closed, written-nothing, written-unreadable, written-sent, called-as}
 use Rattle.ufork_program.proofs.calls.write_call.Goals as goal
 
 pub returns-then-address-ne-CONSOLE_OUTPUT : goal.returns-then-address-ne-CONSOLE_OUTPUT
 returns-then-address-ne-CONSOLE_OUTPUT g c d stands =
     let descriptor : c.address.result ≡ integer c.args.regs.now 10 = c.address.ensures ∙ ap (λ (cap : Cap). address_of cap.bits) c.get.ensures.value in
-    called-as _ _ _ _ _ (written-closed c.args.regs.now d (λ e. c.if-address-ne-CONSOLE_OUTPUT.true (descriptor ∙ e)))
+    called-as _ _ _ _ _ (written-closed c.args.regs.now d c.args.done (λ e. c.if-address-ne-CONSOLE_OUTPUT.true (descriptor ∙ e)))
     (record { called = sym (c.refused.ensures d); piece_is = c.requires.empty; content = stands })
 
 pub returns-then-count-eq0 : goal.returns-then-count-eq0
 returns-then-count-eq0 g c d stands =
     let descriptor : integer c.args.regs.now 10 ≡ 1 = sym (c.address.ensures ∙ ap (λ (cap : Cap). address_of cap.bits) c.get.ensures.value) ∙ c.if-address-ne-CONSOLE_OUTPUT.false in
     let count : integer c.args.regs.now 12 ≡ 0 = sym (c.address-count.ensures ∙ ap (λ (cap : Cap). address_of cap.bits) c.get-2.ensures.value) ∙ c.if-count-eq0.true in
-    called-as _ _ _ _ _ (written-nothing c.args.regs.now d descriptor count) (record { called = refl; piece_is = c.requires.empty; content = stands })
-
-pub is_readable-requires-clause-some : goal.is_readable-requires-clause-some
-is_readable-requires-clause-some g c = stands-weaker g.S.Stores.stands_for c.args.space.now HasOnePage Any (λ d one. tt) c.requires.page
+    called-as _ _ _ _ _ (written-nothing c.args.regs.now d c.args.done descriptor count) (record { called = refl; piece_is = c.requires.empty; content = stands })
 
 pub returns-then-not-is_readable : goal.returns-then-not-is_readable
 returns-then-not-is_readable g c d stands =
@@ -34,18 +24,8 @@ returns-then-not-is_readable g c d stands =
     let count : c.address-count.result ≡ integer c.args.regs.now 12 = c.address-count.ensures ∙ ap (λ (cap : Cap). address_of cap.bits) c.get-2.ensures.value in
     let readable : is_readable d (register c.args.regs.now 11) (integer c.args.regs.now 12) ≡ false =
     ap (λ (cap : Cap). is_readable d cap (integer c.args.regs.now 12)) (sym c.get-authority.ensures.value) ∙ ap (is_readable d c.get-authority.result) (sym count) ∙ sym (c.is_readable.ensures.is d stands) ∙ c.if-not-is_readable.true in
-    called-as _ _ _ _ _ (written-unreadable c.args.regs.now d descriptor (λ e. c.if-count-eq0.false (count ∙ e)) readable)
+    called-as _ _ _ _ _ (written-unreadable c.args.regs.now d c.args.done descriptor (λ e. c.if-count-eq0.false (count ∙ e)) readable)
     (record { called = sym (c.refused-then-not-is_readable.ensures d); piece_is = c.requires.empty; content = stands })
-
-pub send-requires-clause-most : goal.send-requires-clause-most
-send-requires-clause-most g c =
-    let most : c.address-count.result ≤ 4096 =
-    ∥∥₁_elim c.requires.page (hlevel le_prop) (λ (known : StandsFor g.S.Stores.stands_for c.args.space.now HasOnePage).
-    let readable : is_readable known.content c.get-authority.result c.address-count.result ≡ true = sym (c.is_readable.ensures.is known.content known.stands) ∙ c.if-not-is_readable.false in
-    one-page-most known.content c.place_of.result c.address-count.result known.holds
-    ((c.covers_each_byte.ensures known.content process_region c.place_of.result c.address-count.result Read).0
-    (rw c.place_of.ensures (readable-covered known.content c.get-authority.result c.address-count.result readable)))) in
-    most
 
 pub send-requires-clause-covered : goal.send-requires-clause-covered
 send-requires-clause-covered g c = rw c.place_of.ensures (c.is_readable.ensures.covered c.if-not-is_readable.false)
@@ -56,5 +36,5 @@ returns g c d stands =
     let count : c.address-count.result ≡ integer c.args.regs.now 12 = c.address-count.ensures ∙ ap (λ (cap : Cap). address_of cap.bits) c.get-2.ensures.value in
     let readable : is_readable d (register c.args.regs.now 11) (integer c.args.regs.now 12) ≡ true =
     ap (λ (cap : Cap). is_readable d cap (integer c.args.regs.now 12)) (sym c.get-authority.ensures.value) ∙ ap (is_readable d c.get-authority.result) (sym count) ∙ sym (c.is_readable.ensures.is d stands) ∙ c.if-not-is_readable.false in
-    called-as _ _ _ _ _ (written-sent c.args.regs.now d descriptor (λ e. c.if-count-eq0.false (count ∙ e)) readable)
+    called-as _ _ _ _ _ (written-sent c.args.regs.now d c.args.done descriptor (λ e. c.if-count-eq0.false (count ∙ e)) readable)
     (rw (← count, ← c.get-authority.ensures.value, ← c.place_of.ensures) (c.send.ensures d stands))

@@ -17,9 +17,9 @@ pub returns : goal.returns
 returns g c =
     let kernel = c.print_run.new.kernel in
     let size : c.set_frames.new.self.pool.size ≡ most_frames = size_set c.args.board _ _ c.set_frames.ensures.is in
-    let begun : KernelStands FullStands c.boot-kernel.result (start Full most_frames c.args.image.now) =
+    let begun : KernelStands FullStands c.boot-kernel.result (start Full most_frames c.args.bytes.now) =
     c.boot-kernel.ensures.stands Full most_frames (omega arith) (subst (λ n. FullStands c.new.result (nothing Full n)) size c.new.ensures) in
     let stands : (d : Content) → FullStands kernel.space d → Stands c.into_board.result d =
     subst (λ s. (d : Content) → FullStands s d → Stands c.into_board.result d) c.into_space.ensures c.into_board.ensures.stands in
-    EndsAt-from (run_course c.args.image.now most_steps) (IsLeftIn FullStands kernel) (IsLeftOn c.args.board c.into_board.result) _ _ _ _
-    (left_on kernel c.args.board c.into_board.result stands) (c.print_run.ensures (start Full most_frames c.args.image.now) begun) c.status_of-status.ensures
+    EndsAt-from (run_course c.args.bytes.now most_steps) (IsLeftIn FullStands kernel) (IsLeftOn c.args.board c.into_board.result) _ _ _ _
+    (left_on kernel c.args.board c.into_board.result stands) (c.print_run.ensures (start Full most_frames c.args.bytes.now) begun) c.status_of-status.ensures

@@ -12,6 +12,6 @@ work-ended-requires-clause-ready g c = live-ready g.S.Stores.stands_for c.args.s
 pub returns-clause-sound : goal.returns-clause-sound
 returns-clause-sound g c = ∥∥₁_map c.requires.sound (λ (known : StandsForSome g.S.Stores.stands_for c.args.self.now IsSound). record {
   machine = (step_of known.machine).after;
-  stands = step-stands g.S.Stores.stands_for c.args.self.now _ _ _ _ _ _ c.is_none-self.ensures known.machine c.work-ended.ensures known.stands;
+  stands = step-stands g.S.Stores.stands_for c.args.self.now _ _ _ _ _ _ _ c.is_none-self.ensures known.machine c.work-ended.ensures known.stands;
   holds = c.steps_stay_sound.ensures.sound known.machine (ap (λ (m : Machine). m.live) known.stands.is ∙ c.requires.live) known.holds;
 })
