@@ -8,3 +8,12 @@ pub mod PagesMade
 pub mod MovedPages
 pub mod RightBits
 pub mod HeldRoots
+pub mod DecimalTexts
+pub mod FirstPlaces
+pub mod LinesRead
+pub mod EntriesSaid
+pub mod LinesBack
+pub mod EntriesBack
+pub mod FirstWrong
+pub mod LinesSaid
+pub mod EntriesWithin

@@ -10,3 +10,5 @@ pub mod Rights
 pub mod Accounts
 pub mod Touches
 pub mod MemoryLaws
+pub mod DecimalNumbers
+pub mod NumberLists

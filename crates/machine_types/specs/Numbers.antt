@@ -10,6 +10,20 @@ most_slots = 64
 abbrev pub most_steps : ℕ
 most_steps = 1000000000
 
+-- the greatest quantum of a schedule
+abbrev pub most_quantum : ℕ
+most_quantum = 1000000
+
+-- how often a number of a list is repeated at most, and the most lines and bytes of a list
+abbrev pub most_repeats : ℕ
+most_repeats = 1000000000
+
+abbrev pub most_lines : ℕ
+most_lines = 100000
+
+abbrev pub list_bytes : ℕ
+list_bytes = 1048576
+
 abbrev pub right_to_execute : ℕ
 right_to_execute = 1
 
@@ -23,6 +37,10 @@ right_to_read = 4
 pub record ConstantsAreFixed : Type 0 where
   pub slots : code.MOST_SLOTS ≡ most_slots
   pub steps : code.MOST_STEPS ≡ most_steps
+  pub quantum : code.MOST_QUANTUM ≡ most_quantum
+  pub repeats : code.MOST_REPEATS ≡ most_repeats
+  pub lines : code.MOST_LINES ≡ most_lines
+  pub list : code.LIST_BYTES ≡ list_bytes
   pub execute : code.RIGHT_X ≡ right_to_execute
   pub write : code.RIGHT_W ≡ right_to_write
   pub read : code.RIGHT_R ≡ right_to_read

@@ -1,5 +1,7 @@
 // Laws of the definitions. Each function states one, does nothing and takes nothing.
 ghost use Rattle.machine_types.specs.Numbers.{ConstantsAreFixed};
+ghost use Rattle.machine_types.specs.DecimalNumbers.{NumbersAreDecimal};
+ghost use Rattle.machine_types.specs.NumberLists.{ListsAreExact};
 ghost use Rattle.machine_types.specs.Stores.{PagesAreNumbered};
 ghost use Rattle.machine_types.specs.MemoryLaws.{NumbersAreBytes, StoredNumbersAreRead, StoredBytesAreRead, PagesAreMade, PagesAreMoved, WhatMayBeHeld, RightsAreBits};
 
@@ -47,3 +49,15 @@ pub fn rights_are_bits()
 pub fn what_may_be_held()
     ensures { WhatMayBeHeld }
 {}
+
+/// A text is a number exactly where it is the decimal text of one.
+pub fn numbers_are_decimal()
+    ensures { NumbersAreDecimal }
+{}
+
+/// Lists are read back from the text of their lines, and the line at which a text is refused is the first wrong one.
+pub fn lists_are_exact()
+    ensures { ListsAreExact }
+{
+    numbers_are_decimal();
+}

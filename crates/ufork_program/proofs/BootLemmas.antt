@@ -1,11 +1,10 @@
 -- The process at the start of an image.
-use Rattle.std.proofs.Common.{◌≡◌, ℕ, ◌<◌, ◌≤◌, List, true, None, Ok, refl, ap, arith}
+use Rattle.std.proofs.Common.{◌≡◌, ℕ, ◌<◌, ◌≤◌, List, true, None, Ok, refl, ap, ◌∙◌, arith}
 use Rattle.std.proofs.Math.Bridge.{le_prop}
 use Rattle.std.proofs.Math.Logic.{∥∥₁_elim}
-use Rattle.cap_format.specs.Numbers.{region_pages}
 use Rattle.cap_format.specs.Image.{IsImage}
-use Rattle.cap_format.specs.ImageLaws.{ImagesAreSound}
 use Rattle.contents.specs.Content.{Content, free_frames}
+use Rattle.machine_types.specs.declared.config.Config.{Config}
 use Rattle.contents.specs.Conditions.{HasNoStore, HasStore}
 use Rattle.contents.specs.Whole.{IsWhole}
 use Rattle.stores.specs.Known.{StandsFor}
@@ -20,23 +19,19 @@ use Rattle.ufork_program.specs.Kernel.{IsFresh, machine_of, StandsForSome}
 use Rattle.ufork_program.specs.Machine.{IsReady, IsSound}
 
 -- in the content at first no region has a store
-pub fresh-none : (c : Content) → IsFresh c → HasNoStore process_region c
-fresh-none c fresh = ap (λ (d : Content). d.stores process_region) fresh.nothing_yet
+pub fresh-none : (config : Config) (c : Content) → IsFresh config c → HasNoStore process_region c
+fresh-none config c fresh = ap (λ (d : Content). d.stores process_region) fresh
 
--- and a frame is free for each page of an image
-pub fresh-room : (c : Content) → IsFresh c → region_pages ≤ free_frames c
-fresh-room c fresh = let room = fresh.room in rw fresh.nothing_yet (omega (arith, room))
+-- and all frames are free
+pub fresh-room : (config : Config) (c : Content) → IsFresh config c → free_frames c ≡ config.frames
+fresh-room config c fresh = ap free_frames fresh ∙ (omega arith)
 
--- an image has at most a region's pages
-pub image-pages : ImagesAreSound → (file : List ℕ) (image : Image) → IsRead file (Ok image) → image.pages ≤ region_pages
-image-pages law file image read = let most = law.pages file read.0 in rw read.1 most
-
--- So it is never refused for want of a frame.
-pub never-refused : {S : Type 0} (stands_for : S → Content → Type 0) (space : S) (image : Image) → image.pages ≤ region_pages → ∥ StandsFor stands_for space IsFresh ∥₁
+-- So an image with a frame for each page is never refused.
+pub never-refused : {S : Type 0} (stands_for : S → Content → Type 0) (space : S) (config : Config) (image : Image) → image.pages ≤ config.frames → ∥ StandsFor stands_for space (IsFresh config) ∥₁
     → ((c : Content) → stands_for space c → free_frames c < image.pages) → ⊥
-never-refused stands_for space image most fresh lacks =
-    let never : region_pages < image.pages = ∥∥₁_elim fresh (hlevel le_prop) (λ (known : StandsFor stands_for space IsFresh).
-    let room = fresh-room known.content known.holds in
+never-refused stands_for space config image most fresh lacks =
+    let never : config.frames < image.pages = ∥∥₁_elim fresh (hlevel le_prop) (λ (known : StandsFor stands_for space (IsFresh config)).
+    let room = fresh-room config known.content known.holds in
     let lack = lacks known.content known.stands in
     omega (arith, room, lack)) in
     omega (arith, most, never)

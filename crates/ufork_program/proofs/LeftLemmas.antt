@@ -1,11 +1,14 @@
 -- What a command leaves: the board of what stands, and the status.
-use Rattle.std.proofs.Common.{◌≡◌, ℕ, Some, None, Ok, Result, MatchResult, refl, ap}
+use Rattle.std.proofs.Common.{◌≡◌, ◌≢◌, ℕ, Some, None, Ok, Err, Result, MatchResult, List, [], ◌∷◌, refl, ap}
+use Rattle.std.specs.Bool.{⊤}
 use Rattle.std.specs.declared.option.Option.{Option}
-use Rattle.outside_io.specs.Parts.{Console}
-use Rattle.outside_io.specs.Answers.{Answer, Answers, memory_wanted, write_fault}
+use Rattle.outside_io.specs.declared.streams.Failed.{Failed}
+use Rattle.outside_io.specs.States.{SinkState, PrintsText}
+use Rattle.outside_io.specs.Parts.{Console, console, err_part}
+use Rattle.outside_io.specs.Answers.{Answer, Answers, refusal, memory_wanted, write_fault}
 use Rattle.outside_io.specs.Moments.{EndsAt}
-use Rattle.outside_io.proofs.PartLemmas.{Prints-nothing}
-use Rattle.outside_io.proofs.AnswerLemmas.{Ends-from}
+use Rattle.outside_io.proofs.PartLemmas.{Prints-nothing, Prints-err, Prints-stop, Prints-gives}
+use Rattle.outside_io.proofs.AnswerLemmas.{Ends-from, Answers-failed}
 use Rattle.outside_io.proofs.MomentLemmas.{EndsAt-steady}
 use Rattle.contents.specs.Content.{Content}
 use Rattle.stores.specs.declared.board.Board.{Board}
@@ -36,3 +39,11 @@ refused_ends answer a b r status given empty h e = EndsAt-steady None answer (Is
 -- where memory is wanted nothing is written
 pub memory_ends : (a : Console) (status : ℕ) (given : Board) → IsEmpty given → status ≡ memory_wanted.status → EndsAt (refused memory_wanted) (IsLeftOn given given) a a status
 memory_ends a status given empty e = refused_ends {E = ⊥} memory_wanted a a (Ok memory_wanted.status) status given empty (record { prints = Prints-nothing a memory_wanted.status; status = refl }) e
+
+-- a line that was written, or cut, is the answer of its refusal
+pub line_answered : (status : ℕ) (line : List ℕ) (out old new : SinkState) (written : Result (Unit {0}) Failed) (result : Result ℕ Failed) → line ≢ [] → PrintsText line old new written
+    → MatchResult written (λ _. result ≡ Ok status) (λ failed. result ≡ Err failed) → Answers (refusal status line) (console out old) (console out new) result
+line_answered status line out old new (Ok done) result some prints is =
+    rw is (record { prints = Prints-gives _ _ _ _ _ (Prints-err _ _ _ _ _ tt prints); status = refl })
+line_answered status line out old new (Err failed) result some prints is =
+    rw is (Answers-failed _ _ _ _ (λ (other : Failed). ⊤) tt (Prints-stop (err_part line ∷ []) [] _ _ _ _ (λ (other : Failed). ⊤) tt (Prints-err _ _ _ _ _ some prints)))

@@ -8,3 +8,8 @@ pub mod KernelLemmas
 pub mod RunLemmas
 pub mod LeftLemmas
 pub mod CourseLemmas
+pub mod StepLawLemmas
+pub mod BeginLemmas
+pub mod SplitLemmas
+pub mod StepMoments
+pub mod TellingLemmas

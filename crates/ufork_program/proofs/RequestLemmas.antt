@@ -1,62 +1,234 @@
--- What a file leads to that is longer than an image may be.
-use Rattle.std.proofs.Common.{◌≡◌, ℕ, suc, ◌<◌, List, length, replicate, Some, IsSome, Ok, arith, refl, sym, subst}
+-- What a file leads to that is longer than its limit, and what request comes of the files that were read.
+use Rattle.std.proofs.Common.{◌≡◌, ℕ, suc, ◌<◌, List, length, replicate, Some, None, IfSome, IsSomeAnd, Ok, Err, nat_eq, if◌then◌else◌, arith, refl, sym, subst, inl, inr}
 use Rattle.std.proofs.lemmas.List.{length-replicate}
-use Rattle.outside_io.specs.States.{FilesState}
+use Rattle.std.specs.declared.option.Option.{Option}
+use Rattle.cap_format.specs.Image.{IsImage, fault_of}
 use Rattle.cap_format.specs.Numbers.{image_bytes}
-use Rattle.elf_loader.specs.Loaded.{IsRead}
-use Rattle.ufork_program.specs.Answer.{file_word}
-use Rattle.ufork_program.specs.Request.{IsOfFile, HasWordsCause, HasFilesCause, IsUsable}
+use Rattle.cap_format.specs.declared.image.ImageFault.{ImageFault}
+use Rattle.elf_loader.specs.Loaded.{image_of}
+use Rattle.command_words.specs.declared.words.Options.{Options}
+use Rattle.command_words.specs.Commands.{read_of}
+use Rattle.machine_types.specs.Numbers.{list_bytes, most_quantum}
+use Rattle.machine_types.proofs.LinesRead.{long-text}
+use Rattle.ufork_program.specs.Answer.{Files, named_by}
+use Rattle.ufork_program.specs.Request.{IsRequestOf, ComesOf, NamesFile, NamesImage, NamesGuest, IsScheduleAt, HasSchedule}
+use Rattle.ufork_program.specs.Reading.{Told, IsCommand, IsToldAt, IsNoImageAt, IsScheduleTextAt, IsImageAt, IsScheduleFileAt, IsOptionRead, stopped}
+use Rattle.ufork_program.specs.declared.request.Guest.{Guest}
 use Rattle.ufork_program.specs.declared.request.Request.{Request}
-use Rattle.ufork_program.specs.declared.request.Request.TheVariants.{Refused, NoMemory, Run}
-use Rattle.ufork_program.specs.declared.request.CommandRefusal.TheVariants.{Usage, CannotRead, NoImage}
+use Rattle.ufork_program.specs.declared.request.Request.TheVariants as request
+use Rattle.ufork_program.specs.declared.request.CommandRefusal.TheVariants.{Usage, CannotRead, NoImage, NoSchedule, NoFrames}
+use Rattle.ufork_program.specs.declared.request.Stop.{Stop}
+use Rattle.ufork_program.specs.declared.request.Stop.TheVariants.{Refused, NoMemory}
+
+-- some content that may stand at an index is longer than this
+pub record IsLongAt (words : List (List ℕ)) (told : Told) (index limit : ℕ) : Type 0 where
+  pub content : List ℕ
+  pub told_is : IsToldAt words told index content
+  pub longer : limit < length content
 
 -- a list that is longer than this
 record Longer (limit : ℕ) : Type 0 where
-  file : List ℕ
-  longer : limit < length file
+  content : List ℕ
+  longer : limit < length content
 
 -- there is one for each limit
 some_longer : (limit : ℕ) → Longer limit
-some_longer limit = record { file = replicate (suc limit) 0; longer = rw length-replicate (omega arith) }
+some_longer limit = record { content = replicate (suc limit) 0; longer = rw length-replicate (omega arith) }
 
--- what is so of each request that comes of a file is so of one that comes of every longer file
-of_longer : (limit : ℕ) (request : Request) (P : Type 0) → ((file : List ℕ) → IsOfFile file request → P) → ((file : List ℕ) → limit < length file → IsOfFile file request) → P
-of_longer limit request P leads is = let long = some_longer limit in leads long.file (is long.file long.longer)
+-- what a read tells that found too many bytes
+abbrev pub TellsLong : List (List ℕ) → Told → ℕ → ℕ → Type 0
+TellsLong words told index limit = IfSome told (λ contents. (content : List ℕ) × (named_by words contents index ≡ Some content) × (limit < length content))
 
--- a file is read where the words are a command
-file-words : (words : List (List ℕ)) (file : List ℕ) (request : Request) → IsSome (file_word words) → IsOfFile file request → HasWordsCause words request
-file-words words file (Refused Usage) some is = absurd is
-file-words words file (Refused (CannotRead place)) some is = absurd is
-file-words words file (Refused (NoImage fault)) some is = some
-file-words words file NoMemory some is = some
-file-words words file (Run image bytes) some is = some
+-- so such a content may stand there
+pub long_at : (words : List (List ℕ)) (told : Told) (index limit : ℕ) → TellsLong words told index limit → IsLongAt words told index limit
+long_at words None index limit tells = let long = some_longer limit in record { content = long.content; told_is = record { content_is = tt }; longer = long.longer }
+long_at words (Some contents) index limit tells = record { content = tells.0; told_is = record { content_is = tells.1 }; longer = tells.2 }
 
--- its fault is that of some file, and its image was read from its bytes
-file-usable : (words : List (List ℕ)) (file : List ℕ) (request : Request) → IsOfFile file request → IsUsable words request
-file-usable words file (Refused Usage) is = absurd is
-file-usable words file (Refused (CannotRead place)) is = absurd is
-file-usable words file (Refused (NoImage fault)) is = record { file = file; fault_is = is }
-file-usable words file NoMemory is = tt
-file-usable words file (Run image bytes) is = subst (λ (f : List ℕ). IsRead f (Ok image)) (sym is.0) is.1
+-- a longer file is no image, by the fault of all longer files
+pub long_image : (words : List (List ℕ)) (told : Told) (index : ℕ) (fault : ImageFault) → ((file : List ℕ) → image_bytes < length file → fault_of file ≡ Some fault)
+    → TellsLong words told index image_bytes → IsNoImageAt words told index fault
+long_image words told index fault none tells =
+    let long = long_at words told index image_bytes tells in
+    record { file = long.content; told_is = long.told_is; fault_is = none long.content long.longer }
 
--- and no file failed
-file-files : (words : List (List ℕ)) (old new : FilesState) (file : List ℕ) (request : Request) → new.faults ≡ old.faults → IsOfFile file request → HasFilesCause words old new request
-file-files words old new file (Refused Usage) kept is = absurd is
-file-files words old new file (Refused (CannotRead place)) kept is = absurd is
-file-files words old new file (Refused (NoImage fault)) kept is = kept
-file-files words old new file NoMemory kept is = kept
-file-files words old new file (Run image bytes) kept is = kept
+-- a text that is longer than a schedule may be is wrong at line 0
+pub long_text : (words : List (List ℕ)) (told : Told) (index : ℕ) → TellsLong words told index list_bytes → IsScheduleTextAt words told index (Err 0)
+long_text words told index tells =
+    let long = long_at words told index list_bytes tells in
+    record { text = long.content; told_is = long.told_is; is = long-text 1 most_quantum long.content long.longer }
 
--- a request that comes of every file that is longer than an image may be
-module _ (words : List (List ℕ)) (request : Request) (is : (file : List ℕ) → image_bytes < length file → IsOfFile file request) where
-  -- has its cause in words that are a command
-  pub long-words : (name : List ℕ) → file_word words ≡ Some name → HasWordsCause words request
-  long-words name word = of_longer image_bytes request _ (λ file. file-words words file request (rw word refl)) is
+-- the contents that are told, and these where none are
+files_of : List (List ℕ) → Told → Files → Files
+files_of words None others = others
+files_of words (Some contents) others = named_by words contents
 
-  -- may be used
-  pub long-usable : IsUsable words request
-  long-usable = of_longer image_bytes request _ (λ file. file-usable words file request) is
+-- they are told
+files_of-told : (words : List (List ℕ)) (told : Told) (others : Files) → IfSome told (λ contents. files_of words told others ≡ named_by words contents)
+unfolding files_of
+files_of-told words None others = tt
+files_of-told words (Some contents) others = refl
 
-  -- and says that no file failed
-  pub long-files : (old new : FilesState) → new.faults ≡ old.faults → HasFilesCause words old new request
-  long-files old new kept = of_longer image_bytes request _ (λ file. file-files words old new file request kept) is
+-- and have a content that may stand at an index
+files_of-at : (words : List (List ℕ)) (told : Told) (others : Files) (index : ℕ) (content : List ℕ) → IsToldAt words told index content
+    → others index ≡ Some content → files_of words told others index ≡ Some content
+unfolding files_of
+files_of-at words None others index content is at = at
+files_of-at words (Some contents) others index content is at = is.content_is
+
+-- this content at one index, and that at all others
+one_of : ℕ → List ℕ → Option (List ℕ) → Files
+one_of image file other index = if nat_eq index image then Some file else other
+
+-- the one
+one_of-same : (image : ℕ) (file : List ℕ) (other : Option (List ℕ)) → one_of image file other image ≡ Some file
+unfolding one_of
+one_of-same image file other = grind arith
+
+-- and another
+one_of-other : (image : ℕ) (file : List ℕ) (other : Option (List ℕ)) (index : ℕ) → index < image → one_of image file other index ≡ other
+unfolding one_of
+one_of-other image file other index below = grind (arith, below)
+
+module _ (words : List (List ℕ)) (told : Told) where
+  -- a request comes of these contents
+  came_of : (others : Files) (asked : Request) → IsRequestOf words (files_of words told others) asked → ComesOf words told asked
+  came_of others asked is = record { files = files_of words told others; told_is = files_of-told words told others; is = is }
+
+  -- words that are no command
+  pub usage_comes : (place : ℕ) → read_of words ≡ Err (record { place = place }) → ComesOf words told (request.Refused (Usage place))
+  usage_comes place is = came_of (λ _. None) (request.Refused (Usage place)) is
+
+  module _ (options : Options) (image : ℕ) (is : IsCommand words options image) where
+    -- memory was wanted
+    no_memory_comes : ComesOf words told request.NoMemory
+    no_memory_comes = came_of (λ _. None) request.NoMemory (rw is.is refl)
+
+    -- the image's file failed
+    no_file_comes : ComesOf words told (request.Refused (CannotRead image))
+    no_file_comes = came_of (λ _. None) (request.Refused (CannotRead image)) (record { options = options; image = image; command = is.is; which = inl refl })
+
+    -- the image's file has the one content
+    has_one : (file : List ℕ) (other : Option (List ℕ)) → IsToldAt words told image file → files_of words told (one_of image file other) image ≡ Some file
+    has_one file other at = files_of-at words told (one_of image file other) image file at (one_of-same image file other)
+
+    -- so the words name it
+    names_one : (file : List ℕ) (other : Option (List ℕ)) → IsToldAt words told image file → NamesFile words (files_of words told (one_of image file other)) options file
+    names_one file other at = record { image = image; command = is.is; content = has_one file other at }
+
+    -- it is no image
+    no_image_comes : (fault : ImageFault) → IsNoImageAt words told image fault → ComesOf words told (request.Refused (NoImage fault))
+    no_image_comes fault wrong = came_of (one_of image wrong.file None) (request.Refused (NoImage fault)) (record {
+      options = options;
+      file = wrong.file;
+      names = names_one wrong.file None wrong.told_is;
+      fault_is = wrong.fault_is;
+    })
+
+    -- so an image that was not read leads to a request
+    pub image_stop_comes : (stop : Stop) → IsImageAt words told image (Err stop) → ComesOf words told (stopped stop)
+    image_stop_comes (Refused (Usage place)) h = absurd h
+    image_stop_comes (Refused (CannotRead failed)) h = rw h no_file_comes
+    image_stop_comes (Refused (NoImage fault)) h = no_image_comes fault h
+    image_stop_comes (Refused (NoSchedule line)) h = absurd h
+    image_stop_comes (Refused (NoFrames pages frames)) h = absurd h
+    image_stop_comes NoMemory h = no_memory_comes
+
+    module _ (file : List ℕ) (at : IsToldAt words told image file) (fit : IsImage file) where
+      -- the contents that are told, and else this file and this text
+      with_text : Option (List ℕ) → Files
+      with_text text = files_of words told (one_of image file text)
+
+      -- the file is an image
+      names_image : (text : Option (List ℕ)) → NamesImage words (with_text text) options file
+      unfolding with_text
+      names_image text = record { names = names_one file text at; image = fit }
+
+      -- a text that may stand at the schedule's index
+      with_text-at : (index : ℕ) (text : List ℕ) → options.schedule ≡ Some index → IsToldAt words told index text → with_text (Some text) index ≡ Some text
+      unfolding with_text
+      with_text-at index text named told_is =
+          let below : IfSome options.schedule (λ index. index < image) = is.within.2 in
+          files_of-at words told (one_of image file (Some text)) index text told_is (one_of-other image file (Some text) index (rw named at below))
+
+      -- the schedule's file failed
+      no_text_comes : (index : ℕ) → options.schedule ≡ Some index → ComesOf words told (request.Refused (CannotRead index))
+      unfolding with_text
+      no_text_comes index named = came_of (one_of image file None) (request.Refused (CannotRead index)) (record {
+        options = options;
+        image = image;
+        command = is.is;
+        which = inr (named, subst (λ (found : Option (List ℕ)). IsSomeAnd found IsImage) (sym (has_one file None at)) fit);
+      })
+
+      -- its text is no schedule
+      no_schedule_comes : (index line : ℕ) → options.schedule ≡ Some index → IsScheduleTextAt words told index (Err line) → ComesOf words told (request.Refused (NoSchedule line))
+      unfolding with_text
+      no_schedule_comes index line named wrong = came_of (one_of image file (Some wrong.text)) (request.Refused (NoSchedule line)) (record {
+        text = wrong.text;
+        names = record {
+          options = options;
+          file = file;
+          names = names_image (Some wrong.text);
+          index = index;
+          named = named;
+          content = with_text-at index wrong.text named wrong.told_is;
+        };
+        wrong = wrong.is;
+      })
+
+      -- so a schedule's file that was not read leads to a request
+      schedule_stop_comes : (index : ℕ) → options.schedule ≡ Some index → (stop : Stop) → IsScheduleFileAt words told index (Err stop) → ComesOf words told (stopped stop)
+      schedule_stop_comes index named (Refused (Usage place)) h = absurd h
+      schedule_stop_comes index named (Refused (CannotRead failed)) h = rw h (no_text_comes index named)
+      schedule_stop_comes index named (Refused (NoImage fault)) h = absurd h
+      schedule_stop_comes index named (Refused (NoSchedule line)) h = no_schedule_comes index line named h
+      schedule_stop_comes index named (Refused (NoFrames pages frames)) h = absurd h
+      schedule_stop_comes index named NoMemory h = no_memory_comes
+
+      -- and so does the option
+      option_stop_at : (option : Option ℕ) → options.schedule ≡ option → (stop : Stop) → IsOptionRead words told option (Err stop) → ComesOf words told (stopped stop)
+      option_stop_at None named stop h = absurd h
+      option_stop_at (Some index) named stop h = schedule_stop_comes index named stop h
+
+      -- the one that the command has
+      pub option_stop_comes : (stop : Stop) → IsOptionRead words told options.schedule (Err stop) → ComesOf words told (stopped stop)
+      option_stop_comes stop h = option_stop_at options.schedule refl stop h
+
+      -- contents by which an option says this schedule
+      record IsSaid (option : Option ℕ) (schedule : List (ℕ × ℕ)) : Type 0 where
+        text : Option (List ℕ)
+        said : IsScheduleAt (with_text text) option schedule
+
+      -- there are some
+      said_at : (option : Option ℕ) → options.schedule ≡ option → (schedule : List (ℕ × ℕ)) → IsOptionRead words told option (Ok schedule) → IsSaid option schedule
+      said_at None named schedule h = record { text = None; said = h }
+      said_at (Some index) named schedule h = record {
+        text = Some h.text;
+        said = subst (λ (found : Option (List ℕ)). HasSchedule found schedule) (sym (with_text-at index h.text named h.told_is)) h.is;
+      }
+
+      -- the words name this guest by some contents
+      guest_comes : (schedule : List (ℕ × ℕ)) (asked : Request) → IsOptionRead words told options.schedule (Ok schedule)
+          → ((files : Files) → NamesGuest words files options.config schedule file → IsRequestOf words files asked) → ComesOf words told asked
+      unfolding with_text
+      guest_comes schedule asked h leads =
+          let said = said_at options.schedule refl schedule h in
+          came_of (one_of image file said.text) asked (leads (with_text said.text) (record { options = options; names = names_image said.text; config_is = refl; schedule_is = said.said }))
+
+      -- it is run
+      pub run_comes : (guest : Guest) → guest.config ≡ options.config → guest.bytes.items ≡ file → IsOptionRead words told options.schedule (Ok guest.schedule)
+          → ComesOf words told (request.Run guest)
+      run_comes guest config_is bytes_is h = guest_comes guest.schedule (request.Run guest) h (λ files names. rw (config_is, bytes_is) names)
+
+      -- or there are too few frames
+      pub too_many_come : (schedule : List (ℕ × ℕ)) (pages frames : ℕ) → (image_of file).pages ≡ pages → options.config.frames ≡ frames → frames < pages
+          → IsOptionRead words told options.schedule (Ok schedule) → ComesOf words told (request.Refused (NoFrames pages frames))
+      too_many_come schedule pages frames pages_are frames_are fewer h = guest_comes schedule (request.Refused (NoFrames pages frames)) h (λ files names. record {
+        config = options.config;
+        schedule = schedule;
+        file = file;
+        names = names;
+        pages_are = pages_are;
+        frames_are = frames_are;
+        fewer = fewer;
+      })

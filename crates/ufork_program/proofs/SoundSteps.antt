@@ -55,7 +55,7 @@ same-runs registers pcc c d same whole runs = record {
 -- What a call answers is a number of 64 bits, and a write that goes on has fewer bytes done than it asks for.
 abbrev Fits : List Cap → Called → Type 0
 Fits registers (Answered value) = value < 2 ^ 64
-Fits registers (Writing done) = (integer registers 17 ≡ write_call) × (done < integer registers 12)
+Fits registers (Writing done) = (integer registers 17 ≡ write_call) × (integer registers 10 ≡ console_output) × (done < integer registers 12)
 Fits registers (Ended status) = Unit {0}
 
 module _ (registers : List Cap) where
@@ -66,19 +66,19 @@ module _ (registers : List Cap) where
   printed-fits at size called after (Ok notes) fits = fits
   printed-fits at size called after (Err refused) fits = tt
 
-  transfer-fits : (count done : ℕ) → integer registers 17 ≡ write_call → count ≡ integer registers 12 → count < 2 ^ 64 → done ≤ count → Fits registers (after_transfer count done)
-  transfer-fits count done number is small most = by (eqb_tells done count)
+  transfer-fits : (count done : ℕ) → integer registers 17 ≡ write_call → integer registers 10 ≡ console_output → count ≡ integer registers 12 → count < 2 ^ 64 → done ≤ count → Fits registers (after_transfer count done)
+  transfer-fits count done number console is small most = by (eqb_tells done count)
     where
       by : ((nat_eq done count ≡ true) × (done ≡ count)) ⊎ ((nat_eq done count ≡ false) × (done ≢ count)) → Fits registers (after_transfer count done)
       by (inl (test, same)) = rw test small
-      by (inr (test, other)) = rw test (number, omega (arith, is))
+      by (inr (test, other)) = rw test (number, console, omega (arith, is))
 
   module _ (c : Content) (done : ℕ) (fewer : IsFewer registers done) where
     count-small : integer registers 12 < 2 ^ 64
     count-small = omega arith
 
-    sent-fits : (at : ℕ) → integer registers 17 ≡ write_call → integer registers 12 ≢ 0 → EffectFits (sent c at (integer registers 12) done)
-    sent-fits at number some = by (min (integer registers 12 - done) most_transfer) (omega arith) (most (eqb_tells done 0))
+    sent-fits : (at : ℕ) → integer registers 17 ≡ write_call → integer registers 10 ≡ console_output → integer registers 12 ≢ 0 → EffectFits (sent c at (integer registers 12) done)
+    sent-fits at number console some = by (min (integer registers 12 - done) most_transfer) (omega arith) (most (eqb_tells done 0))
       where
         most : ((nat_eq done 0 ≡ true) × (done ≡ 0)) ⊎ ((nat_eq done 0 ≡ false) × (done ≢ 0)) → done ≤ integer registers 12
         most (inl (test, none)) = omega (arith, none)
@@ -86,23 +86,28 @@ module _ (registers : List Cap) where
 
         by : (size : ℕ) → size ≤ integer registers 12 - done → done ≤ integer registers 12
             → EffectFits (printed (at + done) size (after_transfer (integer registers 12) (done + size)) (prepare_of c process_region (at + done) size Read).after (prepare_of c process_region (at + done) size Read).answer)
-        by size within below = printed-fits (at + done) size _ _ _ (transfer-fits (integer registers 12) (done + size) number refl count-small (omega (arith, within, below)))
+        by size within below = printed-fits (at + done) size _ _ _ (transfer-fits (integer registers 12) (done + size) number console refl count-small (omega (arith, within, below)))
 
     refused-fits : (error : Errno) → 0 < error_number error → EffectFits (refuses c error)
     refused-fits error some = omega (arith, some)
 
     written-fits : integer registers 17 ≡ write_call → EffectFits (written registers c done)
     written-fits number =
-        either EffectFits (integer registers 10 == console_output) _ (refuses c Ebadf) (by (eqb_tells (integer registers 12) 0)) (refused-fits Ebadf (omega arith))
+        open-fits (eqb_tells (integer registers 10) console_output)
       where
         cap : Cap
         cap = register registers 11
 
-        by : ((nat_eq (integer registers 12) 0 ≡ true) × (integer registers 12 ≡ 0)) ⊎ ((nat_eq (integer registers 12) 0 ≡ false) × (integer registers 12 ≢ 0))
+        by : integer registers 10 ≡ console_output → ((nat_eq (integer registers 12) 0 ≡ true) × (integer registers 12 ≡ 0)) ⊎ ((nat_eq (integer registers 12) 0 ≡ false) × (integer registers 12 ≢ 0))
             → EffectFits (if integer registers 12 == 0 then answers c 0 else (if is_readable c cap (integer registers 12) then sent c (place_of cap) (integer registers 12) done else refuses c Efault))
-        by (inl (test, none)) = rw test (omega arith)
-        by (inr (test, some)) =
-            rw test (either EffectFits (is_readable c cap (integer registers 12)) (sent c (place_of cap) (integer registers 12) done) (refuses c Efault) (sent-fits (place_of cap) number some) (refused-fits Efault (omega arith)))
+        by console (inl (test, none)) = rw test (omega arith)
+        by console (inr (test, some)) =
+            rw test (either EffectFits (is_readable c cap (integer registers 12)) (sent c (place_of cap) (integer registers 12) done) (refuses c Efault) (sent-fits (place_of cap) number console some) (refused-fits Efault (omega arith)))
+
+        open-fits : ((nat_eq (integer registers 10) console_output ≡ true) × (integer registers 10 ≡ console_output)) ⊎ ((nat_eq (integer registers 10) console_output ≡ false) × (integer registers 10 ≢ console_output))
+            → EffectFits (written registers c done)
+        open-fits (inl (test, console)) = rw test (by console (eqb_tells (integer registers 12) 0))
+        open-fits (inr (test, other)) = rw test (refused-fits Ebadf (omega arith))
 
     call-fits : EffectFits (call_effect registers c done)
     call-fits = by (eqb_tells (integer registers 17) 1) (eqb_tells (integer registers 17) 8)
@@ -131,7 +136,7 @@ module _ (keeps : EffectsKeepRunning) (change : FaultsChangeNothing) (stores : C
     }
     by-called piece (Writing d) fits ended = record {
       runs = same-runs s.registers s.pcc s.content (call_effect s.registers s.content done).content (stores s.registers s.content done) called-whole runs;
-      underway = record { call = fits.0; fewer = fits.1; held = held };
+      underway = record { call = fits.0; descriptor = fits.1; fewer = fits.2; held = held };
     }
     by-called piece (Ended status) fits ended = absurd (cc)
 

@@ -1,15 +1,14 @@
 -- What a kernel stands for.
-use Rattle.std.specs.Prelude.{ℕ, ◌≡◌, ◌≤◌, Some, None}
+use Rattle.std.specs.Prelude.{◌≡◌, Some, None}
 use Rattle.std.specs.declared.option.Option.{Option}
-use Rattle.cap_format.specs.Numbers.{region_pages}
 use Rattle.contents.specs.Content.{Content, nothing}
-use Rattle.machine_types.specs.declared.config.Rule.{Rule}
+use Rattle.machine_types.specs.declared.config.Config.{Config}
 use Rattle.ufork_program.specs.Machine.{Machine}
 use Rattle.ufork_program.specs.declared.kernel.Kernel.{Kernel}
 
 -- the machine that a kernel is with this content
 abbrev pub machine_of : {S : _} → Kernel S → Content → Machine
-machine_of k c = record { registers = k.regs; pcc = k.pcc; content = c; writing = k.writing; live = k.live; steps = k.steps }
+machine_of k c = record { config = k.config; schedule = k.schedule; registers = k.regs; pcc = k.pcc; content = c; writing = k.writing; live = k.live; steps = k.steps }
 
 -- Its space stands for the machine's content, and all else is equal.
 pub record KernelStands {S : Type 0} (stands_for : S → Content → Type 0) (k : Kernel S) (m : Machine) : Type 0 where
@@ -27,9 +26,6 @@ abbrev pub IsLeftIn : {S : Type 0} → (S → Content → Type 0) → Kernel S �
 IsLeftIn stands_for k None = ⊥
 IsLeftIn stands_for k (Some m) = KernelStands stands_for k m
 
--- no region has a store, and a frame is free for each page of a region
-pub record IsFresh (c : Content) : Type 0 where
-  pub rule : Rule
-  pub frames : ℕ
-  pub room : region_pages ≤ frames
-  pub nothing_yet : c ≡ nothing rule frames
+-- no region has a store, with the rule and the frames of the configuration
+abbrev pub IsFresh : Config → Content → Type 0
+IsFresh config c = c ≡ nothing config.rule config.frames

@@ -1,6 +1,5 @@
 -- What the calls come to, in numbers, and the courses that aren't runs: each is the contract of a function of this crate.
 use Rattle.std.specs.Prelude.{◌≡◌, ◌≢◌, ℕ, ◌+◌, ◌-◌, ◌^◌, ◌%◌, ◌<◌, ◌≤◌, min, IsTrue, IsFalse, List, [], Some, None, Result, Ok, Err}
-use Rattle.std.specs.declared.option.Option.{Option}
 use Rattle.cap_format.specs.declared.cap.Cap.{Cap}
 use Rattle.machine_types.specs.declared.touches.Note.{Note}
 use Rattle.machine_types.specs.declared.touches.NoFrame.{NoFrame}
@@ -9,16 +8,20 @@ use Rattle.machine_types.specs.Registers.{register}
 use Rattle.contents.specs.Content.{Content, CallOutcome}
 use Rattle.contents.specs.Transfers.{prepare_of, read_bytes_of}
 use Rattle.cap_format.specs.declared.image.ImageFault.{ImageFault}
-use Rattle.cap_format.specs.Image.{IsImage, fault_of}
+use Rattle.machine_types.specs.declared.config.Config.{Config}
+use Rattle.elf_loader.specs.Loaded.{image_of}
+use Rattle.command_words.specs.declared.words.Options.{Options}
+use Rattle.command_words.specs.declared.words.Command.TheVariants.{Run}
+use Rattle.command_words.specs.Commands.{read_of}
 use Rattle.ufork_program.specs.declared.calls.Called.{Called}
 use Rattle.ufork_program.specs.declared.calls.Called.TheVariants.{Answered, Writing, Ended}
 use Rattle.elf_loader.specs.Numbers.{process_region}
-use Rattle.ufork_program.specs.Numbers.{most_steps}
-use Rattle.ufork_program.specs.Lines.{usage_line, cannot_read_line, image_refused_line}
+use Rattle.ufork_program.specs.Lines.{usage_line, cannot_read_line, image_refused_line, schedule_refused_line, frames_lacked_line}
 use Rattle.outside_io.specs.Answers.{refusal}
 use Rattle.ufork_program.specs.Calls.{CallEffect, answers, integer, place_of, is_readable, call_effect}
 use Rattle.ufork_program.specs.Run.{run_course}
-use Rattle.ufork_program.specs.Answer.{course, file_word, refused}
+use Rattle.ufork_program.specs.Answer.{word_at, Files, course, refused}
+use Rattle.ufork_program.specs.Request.{NamesImage, NamesNoImage, NamesNoSchedule, NamesGuest, NamesTooMany}
 
 -- the touches of the next transfer of a write, of so many bytes
 abbrev pub prepared : List Cap → Content → ℕ → ℕ → CallOutcome (Result (List Note) NoFrame)
@@ -54,11 +57,16 @@ pub record CallsAreExact : Type 0 where
       → call_effect r c done ≡ record { called = Ended 268; piece = []; content = (prepared r c done size).after }
   pub other : (r : List Cap) (c : Content) (done : ℕ) → integer r 17 ≢ 1 → integer r 17 ≢ 8 → call_effect r c done ≡ answers c (2 ^ 64 - 38)
 
--- The course by the words and the file: a refusal has a status and a line, during which no machine stands.
+-- The course by the words and the files: a refusal has a status and a line, during which no machine stands. What stands later in the
+-- order isn't looked at.
 pub record CoursesAreExact : Type 0 where
-  pub words : (words : List (List ℕ)) (contents : List ℕ → Option (List ℕ)) → file_word words ≡ None → course words contents ≡ refused (refusal 2 usage_line)
-  pub file : (words : List (List ℕ)) (contents : List ℕ → Option (List ℕ)) (name : List ℕ) → file_word words ≡ Some name → contents name ≡ None → course words contents ≡ refused (refusal 3 (cannot_read_line name))
-  pub image : (words : List (List ℕ)) (contents : List ℕ → Option (List ℕ)) (name content : List ℕ) (fault : ImageFault) → file_word words ≡ Some name → contents name ≡ Some content
-      → fault_of content ≡ Some fault → course words contents ≡ refused (refusal 4 (image_refused_line fault))
-  pub run : (words : List (List ℕ)) (contents : List ℕ → Option (List ℕ)) (name content : List ℕ) → file_word words ≡ Some name → contents name ≡ Some content
-      → IsImage content → course words contents ≡ run_course content most_steps
+  pub words : (words : List (List ℕ)) (files : Files) (place : ℕ) → read_of words ≡ Err (record { place = place }) → course words files ≡ refused (refusal 2 (usage_line place))
+  pub unread : (words : List (List ℕ)) (files : Files) (options : Options) (image : ℕ) → read_of words ≡ Ok (Run options image) → files image ≡ None
+      → course words files ≡ refused (refusal 3 (cannot_read_line (word_at words image)))
+  pub image : (words : List (List ℕ)) (files : Files) (fault : ImageFault) → NamesNoImage words files fault → course words files ≡ refused (refusal 4 (image_refused_line fault))
+  pub no_text : (words : List (List ℕ)) (files : Files) (options : Options) (file : List ℕ) (index : ℕ) → NamesImage words files options file → options.schedule ≡ Some index → files index ≡ None
+      → course words files ≡ refused (refusal 3 (cannot_read_line (word_at words index)))
+  pub schedule : (words : List (List ℕ)) (files : Files) (line : ℕ) → NamesNoSchedule words files line → course words files ≡ refused (refusal 5 (schedule_refused_line line))
+  pub frames : (words : List (List ℕ)) (files : Files) (pages frames : ℕ) → NamesTooMany words files pages frames → course words files ≡ refused (refusal 12 (frames_lacked_line pages frames))
+  pub run : (words : List (List ℕ)) (files : Files) (config : Config) (schedule : List (ℕ × ℕ)) (file : List ℕ) → NamesGuest words files config schedule file → (image_of file).pages ≤ config.frames
+      → course words files ≡ run_course config schedule file

@@ -7,5 +7,8 @@ pub mod Run
 pub mod Kernel
 pub mod Answer
 pub mod Request
+pub mod Reading
 pub mod Headline
 pub mod Laws
+pub mod StepLaws
+pub mod Telling

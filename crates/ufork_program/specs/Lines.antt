@@ -16,9 +16,9 @@ done_line steps = codes "done " ++ (decimal steps ++ codes "\n")
 abbrev pub stopped_line : ℕ → List ℕ
 stopped_line steps = codes "stopped " ++ (decimal steps ++ codes "\n")
 
--- the words aren't a command
-abbrev pub usage_line : List ℕ
-usage_line = codes "ufork: usage\n"
+-- the words aren't a command, from this place on
+abbrev pub usage_line : ℕ → List ℕ
+usage_line place = codes "ufork: usage: word " ++ (decimal place ++ codes "\n")
 
 -- the file of this name was not read
 abbrev pub cannot_read_line : List ℕ → List ℕ
@@ -47,3 +47,11 @@ reason_text BadPerms = codes "BadPerms"
 -- the file is no image
 abbrev pub image_refused_line : ImageFault → List ℕ
 image_refused_line fault = codes "ufork: image refused: " ++ (reason_text fault.reason ++ (codes " at " ++ (decimal fault.place ++ codes "\n")))
+
+-- the text is no schedule, by its first wrong line
+abbrev pub schedule_refused_line : ℕ → List ℕ
+schedule_refused_line line = codes "ufork: schedule refused: line " ++ (decimal line ++ codes "\n")
+
+-- the image has more pages than there are frames
+abbrev pub frames_lacked_line : ℕ → ℕ → List ℕ
+frames_lacked_line pages frames = codes "ufork: image needs " ++ (decimal pages ++ (codes " pages, " ++ (decimal frames ++ codes " frames\n")))

@@ -4,19 +4,21 @@ use Rattle.std.specs.declared.option.Option.{Option}
 use Rattle.cap_format.specs.declared.cap.Cap.{Cap}
 use Rattle.cap_format.specs.Pattern.{address_of}
 use Rattle.cap_format.specs.Rights.{holds}
-use Rattle.machine_types.specs.declared.config.Rule.{Rule}
+use Rattle.machine_types.specs.declared.config.Config.{Config}
 use Rattle.contents.specs.Content.{Content, nothing}
 use Rattle.cheri_step.specs.Effect.{state}
 use Rattle.cheri_step.specs.Laws.{MayRun}
 use Rattle.elf_loader.specs.Numbers.{process_region}
 use Rattle.elf_loader.specs.Loaded.{image_of}
 use Rattle.elf_loader.specs.Start.{started, start_registers, start_pcc}
-use Rattle.ufork_program.specs.Numbers.{write_call}
+use Rattle.ufork_program.specs.Numbers.{write_call, console_output}
 use Rattle.ufork_program.specs.Calls.{integer}
 
--- The process's registers and PCC, and the stores with their account; the bytes done of a write that is underway, or none; whether the
--- process is live, and the steps made.
+-- What the machine is made with, and the schedule of its timer, which one process never sees; the process's registers and PCC, and the
+-- stores with their account; the bytes done of a write that is underway, or none; whether the process is live, and the steps made.
 pub record Machine : Type 0 where
+  pub config : Config
+  pub schedule : List (ℕ × ℕ)
   pub registers : List Cap
   pub pcc : Cap
   pub content : Content
@@ -24,12 +26,14 @@ pub record Machine : Type 0 where
   pub live : Bool
   pub steps : ℕ
 
--- the machine where the image in a file was started, on so many frames
-abbrev pub start : Rule → ℕ → List ℕ → Machine
-start rule frames file = record {
+-- the machine where the image in a file was started
+abbrev pub start : Config → List (ℕ × ℕ) → List ℕ → Machine
+start config schedule file = record {
+  config = config;
+  schedule = schedule;
   registers = start_registers;
   pcc = start_pcc (image_of file).entry;
-  content = started file (image_of file) (nothing rule frames);
+  content = started file (image_of file) (nothing config.rule config.frames);
   writing = None;
   live = true;
   steps = 0;
@@ -38,6 +42,7 @@ start rule frames file = record {
 -- Of a write that is underway: PCC stands at a call, which is a write, and fewer bytes are done than it asks for.
 pub record IsWriting (registers : List Cap) (pcc : Cap) (done : ℕ) : Type 0 where
   pub call : integer registers 17 ≡ write_call
+  pub descriptor : integer registers 10 ≡ console_output
   pub fewer : done < integer registers 12
   pub held : IsTrue (holds pcc.bits (address_of pcc.bits) 4)
 

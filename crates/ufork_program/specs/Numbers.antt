@@ -1,6 +1,5 @@
--- The numbers of calls and descriptors, and the limit of steps, as this project fixes them. The code's constants are these.
+-- The numbers of calls and descriptors, as this project fixes them. The code's constants are these.
 use Rattle.std.specs.Prelude.{ℕ, ◌≡◌}
-use Rattle.ufork_program.specs.declared.TheConstants as code
 use Rattle.ufork_program.specs.declared.calls.TheConstants as calls
 
 -- the numbers of calls
@@ -14,13 +13,8 @@ write_call = 8
 abbrev pub console_output : ℕ
 console_output = 1
 
--- the most steps of a run
-abbrev pub most_steps : ℕ
-most_steps = 20000000
-
 -- each constant of the code is its number
 pub record ConstantsAreFixed : Type 0 where
   pub exit : calls.EXIT ≡ exit_call
   pub write : calls.WRITE ≡ write_call
   pub output : calls.CONSOLE_OUTPUT ≡ console_output
-  pub most_steps_is : code.MOST_STEPS ≡ most_steps

@@ -64,7 +64,7 @@ pub record Step : Type 0 where
 
 abbrev pub step_with : Machine → Work → Step
 step_with m w = record {
-  after = record { registers = w.after.registers; pcc = w.after.pcc; content = w.after.content; writing = w.writing; live = not (is_some w.ended); steps = m.steps + 1 };
+  after = record m { registers = w.after.registers; pcc = w.after.pcc; content = w.after.content; writing = w.writing; live = not (is_some w.ended); steps = m.steps + 1 };
   piece = w.piece;
   ended = w.ended;
 }

@@ -1,12 +1,10 @@
 // The kernel: one process over a space of stores.
 ghost use Rattle.std.specs.Prelude.{◌≡◌, ℕ, ◌≤◌, ◌<◌, ◌+◌, ◌^◌, IsTrue, [], None, Ok};
 ghost use Rattle.cap_format.specs.Code.{IsCode};
-ghost use Rattle.cap_format.specs.Numbers.{region_pages};
 ghost use Rattle.cap_format.specs.Pattern.{address_of};
 ghost use Rattle.cap_format.specs.Region.{IsInside};
 ghost use Rattle.cap_format.specs.Rights.{holds};
 ghost use Rattle.machine_types.specs.Registers.{AreInside};
-ghost use Rattle.machine_types.specs.declared.config.Rule.{Rule};
 ghost use Rattle.contents.specs.Conditions.{HasStore};
 ghost use Rattle.contents.specs.Content.{Content, nothing};
 ghost use Rattle.stores.specs.Known.{StandsFor};
@@ -20,14 +18,16 @@ ghost use Rattle.ufork_program.specs.Kernel.{IsFresh};
 use crate::calls::{Called, call, killed_by};
 use crate::laws::{calls_leave_stores, steps_stay_sound};
 use crate::piece::Piece;
-use cap_format::{Cap, images_are_sound};
+use cap_format::Cap;
 use cheri_step::{StepEnd, faults_change_nothing, next_pcc, step_instr};
 use elf_loader::{Image, PROCESS_REGION, StartState, start, starts_are_exact, starts_may_run};
-use machine_types::Regs;
+use machine_types::{Config, Regs, Schedule};
 use stores::Stores;
 
 /// A process in region 0 of a space.
 pub struct Kernel<S> {
+    config: Config,
+    schedule: Schedule,
     regs: Regs,
     pcc: Cap,
     space: S,
@@ -42,16 +42,22 @@ impl<S: Stores> Kernel<S> {
     ghost use Rattle.ufork_program.specs.Steps.{step_of};
     ghost use Rattle.ufork_program.specs.Kernel.{KernelStands, StandsForSome};
 
-    /// The process at its start, for an image that was read from these bytes. In the space no region has a store, and a frame is free
-    /// for each page of a region.
-    pub fn boot(image: &Image, bytes: &[u8], space: S) -> Kernel<S>
+    /// The process at its start, for an image that was read from these bytes. In the space no region has a store, and the rule and the
+    /// number of frames are those of the configuration, which has a frame for each page of the image.
+    pub fn boot(
+        config: Config,
+        schedule: Schedule,
+        image: &Image,
+        bytes: &[u8],
+        space: S,
+    ) -> Kernel<S>
         requires read { IsRead bytes.now (Ok image.now) }
-        requires fresh { ∥ StandsFor S.stands_for space IsFresh ∥₁ }
-        ensures stands { (rule : Rule) (frames : ℕ) → region_pages ≤ frames → S.stands_for space (nothing rule frames) → KernelStands S.stands_for result (start rule frames bytes.now) }
+        requires room { image.now.pages ≤ config.frames }
+        requires fresh { ∥ StandsFor S.stands_for space (IsFresh config) ∥₁ }
+        ensures stands { S.stands_for space (nothing config.rule config.frames) → KernelStands S.stands_for result (start config schedule bytes.now) }
         ensures sound { ∥ StandsForSome S.stands_for result IsSound ∥₁ }
         ensures begun { result.steps ≡ 0 }
     {
-        images_are_sound();
         starts_are_exact();
         starts_may_run();
         let mut space = space;
@@ -59,6 +65,8 @@ impl<S: Stores> Kernel<S> {
             unreachable!()
         };
         Kernel {
+            config,
+            schedule,
             regs,
             pcc,
             space,
@@ -120,6 +128,8 @@ impl<S: Stores> Kernel<S> {
         ensures { result ≡ self.space }
     {
         let Kernel {
+            config: _config,
+            schedule: _schedule,
             regs: _regs,
             pcc: _pcc,
             space,

@@ -3,9 +3,12 @@ ghost use Rattle.ufork_program.specs.Numbers.{ConstantsAreFixed};
 ghost use Rattle.ufork_program.specs.Steps.{StepsStaySound, CallsLeaveStores};
 ghost use Rattle.ufork_program.specs.Run.{RunsEndAtTheLeast};
 ghost use Rattle.ufork_program.specs.Laws.{CallsAreExact, CoursesAreExact};
+ghost use Rattle.ufork_program.specs.StepLaws.{MachinesAreExact};
+ghost use Rattle.ufork_program.specs.Telling.{PromisesTell};
 
 use cheri_step::{effects_keep_running, faults_change_nothing};
 use contents::{calls_keep_whole, other_stores_stay, regions_are_kept};
+use elf_loader::starts_are_exact;
 
 /// The constants of this crate are the numbers that the definitions fix.
 pub fn constants_are_fixed()
@@ -44,4 +47,19 @@ pub fn steps_stay_sound()
     faults_change_nothing();
     calls_leave_stores();
     calls_keep_whole();
+}
+
+/// Each step case by case, which bytes are readable for a call, and the machine with which a run begins.
+pub fn machines_are_exact()
+    ensures { MachinesAreExact }
+{
+    starts_are_exact();
+    calls_keep_whole();
+}
+
+/// What a call's promise comes to where the contents of files are told: which files were run or failed, and what a cut run leaves.
+pub fn promises_tell()
+    ensures { PromisesTell }
+{
+    runs_end_at_the_least();
 }

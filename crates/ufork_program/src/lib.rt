@@ -13,13 +13,9 @@ mod piece;
 mod request;
 mod run;
 mod top;
-mod words;
 
 pub use laws::{
     calls_are_exact, calls_leave_stores, constants_are_fixed, courses_are_exact,
-    runs_end_at_the_least, steps_stay_sound,
+    machines_are_exact, promises_tell, runs_end_at_the_least, steps_stay_sound,
 };
 pub use top::{Ended, ufork};
-
-/// The most steps of a run.
-const MOST_STEPS: u64 = 20_000_000;

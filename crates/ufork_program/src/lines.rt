@@ -1,7 +1,7 @@
 // Lines, made on the stack.
 ghost use Rattle.std.specs.Prelude.{◌≡◌, ◌+◌, ◌≤◌, ◌^◌, ◌<◌, ◌++◌, if◌then◌else◌, codes, length, decimal};
 ghost use Rattle.outside_io.specs.States.{PrintsText};
-ghost use Rattle.ufork_program.specs.Lines.{exit_line, done_line, stopped_line, cannot_read_line, reason_text, image_refused_line};
+ghost use Rattle.ufork_program.specs.Lines.{exit_line, done_line, stopped_line, cannot_read_line, usage_line, schedule_refused_line, frames_lacked_line, reason_text, image_refused_line};
 
 use cap_format::{ImageFault, ImageReason};
 use itoa::write_digits;
@@ -9,7 +9,7 @@ use outside_io::{Failed, Sink};
 use std::marker::Model;
 
 /// The most bytes of a line.
-const ROOM: usize = 64;
+const ROOM: usize = 96;
 
 /// A line that is put together from its end, in a buffer that it fills from its end.
 #[derive(Drop)]
@@ -25,7 +25,7 @@ impl Model for Line {
 
     ghost view = { λ line. drop line.start line.bytes };
 
-    ghost invariant = { λ line. line.start ≤ 64 };
+    ghost invariant = { λ line. line.start ≤ 96 };
 }
 
 impl Line {
@@ -42,7 +42,7 @@ impl Line {
 
     // Puts a text before what is there.
     fn put(&mut self, text: &[u8])
-        requires { length text.now + length self.old ≤ 64 }
+        requires { length text.now + length self.old ≤ 96 }
         ensures { self.new ≡ text.now ++ self.old }
     {
         let start = self.start - text.len();
@@ -52,7 +52,7 @@ impl Line {
 
     // Puts a number before what is there, in at most 20 digits.
     fn put_number(&mut self, n: u64)
-        requires { 20 + length self.old ≤ 64 }
+        requires { 20 + length self.old ≤ 96 }
         ensures text { self.new ≡ decimal n ++ self.old }
         ensures room { length self.new ≤ 20 + length self.old }
     {
@@ -110,6 +110,41 @@ pub fn write_last<E: Sink>(live: bool, steps: u64, err: &mut E) -> Result<(), Fa
     } else {
         write_done(steps, err)
     }
+}
+
+/// Writes `ufork: usage: word PLACE`, by one write.
+pub fn write_usage<E: Sink>(place: u64, err: &mut E) -> Result<(), Failed>
+    ensures { PrintsText (usage_line place) (E.state err.old) (E.state err.new) result }
+{
+    let mut line = Line::new();
+    line.put(b"\n");
+    line.put_number(place);
+    line.put(b"ufork: usage: word ");
+    err.write(line.text())
+}
+
+/// Writes `ufork: schedule refused: line LINE`, by one write.
+pub fn write_schedule_refused<E: Sink>(number: u64, err: &mut E) -> Result<(), Failed>
+    ensures { PrintsText (schedule_refused_line number) (E.state err.old) (E.state err.new) result }
+{
+    let mut line = Line::new();
+    line.put(b"\n");
+    line.put_number(number);
+    line.put(b"ufork: schedule refused: line ");
+    err.write(line.text())
+}
+
+/// Writes `ufork: image needs PAGES pages, FRAMES frames`, by one write.
+pub fn write_frames_lacked<E: Sink>(pages: u64, frames: u64, err: &mut E) -> Result<(), Failed>
+    ensures { PrintsText (frames_lacked_line pages frames) (E.state err.old) (E.state err.new) result }
+{
+    let mut line = Line::new();
+    line.put(b" frames\n");
+    line.put_number(frames);
+    line.put(b" pages, ");
+    line.put_number(pages);
+    line.put(b"ufork: image needs ");
+    err.write(line.text())
 }
 
 // Writes the name and the end of its line.

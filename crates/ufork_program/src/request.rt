@@ -1,22 +1,42 @@
 // What is read, in order, before anything is written.
-ghost use Rattle.std.specs.Prelude.{◌≡◌, ◌<◌, ℕ, List, IfSome, length, map, string_bytes};
-ghost use Rattle.ufork_program.specs.Request.{IsOfFile, IsRequestOf, HasWordsCause, HasFilesCause, IsUsable};
+ghost use Rattle.std.specs.Prelude.{◌≡◌, ◌<◌, ℕ, List, Some, IfSome, length, map, string_bytes};
+ghost use Rattle.cap_format.specs.Numbers.{image_bytes};
+ghost use Rattle.cap_format.specs.Image.{fault_of};
+ghost use Rattle.outside_io.specs.Contents.{IsReadOf, HasFileCause};
+ghost use Rattle.ufork_program.specs.Answer.{word_at, named_by};
+ghost use Rattle.ufork_program.specs.Request.{ComesOf, HasFilesCause, IsUsable};
+ghost use Rattle.ufork_program.specs.Reading.{IsCommand, IsImageAt, IsScheduleFileAt, IsOptionRead, request_by, HasReadCause};
 
-use crate::words::read_words;
 use cap_format::{IMAGE_BYTES, ImageFault, ImageReason, long_files_are_none};
+use command_words::{Command, Options, read_words};
 use elf_loader::{Image, ImageRefusal, read_image};
+use machine_types::{Config, LIST_BYTES, Schedule};
 use outside_io::{FileRefusal, Files};
+use run_texts::{ScheduleRefusal, read_schedule};
 use std::alloc::Global;
 
 /// Why nothing is run.
 #[derive(Clone, Copy, Debug, PartialEq, Eq)]
 pub enum CommandRefusal {
-    /// The words are no command.
-    Usage,
-    /// The file that the word at this place names was not read.
-    CannotRead { place: usize },
-    /// The file is no image.
+    /// The words are no command, from this place on.
+    Usage { place: u64 },
+    /// The file that the word at this index names was not read.
+    CannotRead { index: usize },
+    /// The image's file is no image.
     NoImage(ImageFault),
+    /// The schedule's text is no schedule, by this line.
+    NoSchedule { line: u64 },
+    /// The image has more pages than there are frames.
+    NoFrames { pages: u32, frames: u32 },
+}
+
+/// What is run: an image, which was read from these bytes, by this configuration and schedule.
+#[derive(Drop)]
+pub struct Guest {
+    pub config: Config,
+    pub schedule: Schedule,
+    pub image: Image,
+    pub bytes: Vec<u8>,
 }
 
 /// What is answered, by what was read.
@@ -24,50 +44,168 @@ pub enum CommandRefusal {
 pub enum Request {
     Refused(CommandRefusal),
     NoMemory,
-    /// The image is run, which was read from these bytes.
-    Run { image: Image, bytes: Vec<u8> },
+    Run(Guest),
 }
 
-// The place of the file name among the words `run NAME`.
-const NAME: usize = 1;
+// Why no guest is read: what is answered then.
+#[derive(Clone, Copy, Debug, PartialEq, Eq)]
+enum Stop {
+    Refused(CommandRefusal),
+    NoMemory,
+}
 
-// Reads the image in a file.
-fn request_image(alloc: Global, bytes: Vec<u8>) -> Request
-    ensures { IsOfFile bytes.items result }
+// An image, and the bytes that it was read from.
+#[derive(Drop)]
+struct ImageFile {
+    image: Image,
+    bytes: Vec<u8>,
+}
+
+// Reads the file that the word at an index names.
+fn read_named<F: Files>(
+    alloc: Global,
+    words: &[String],
+    index: usize,
+    limit: usize,
+    files: &mut F,
+) -> Result<Vec<u8>, FileRefusal>
+    requires { index < length words.now }
+    ensures content { IfSome (F.state files.old).contents (λ contents. IsReadOf (λ v. v.items) (named_by (map string_bytes words.now) contents index) limit result) }
+    ensures cause { HasFileCause (word_at (map string_bytes words.now) index) (F.state files.old) (F.state files.new) result }
+    ensures contents { (F.state files.new).contents ≡ (F.state files.old).contents }
 {
-    match read_image(alloc, &bytes) {
-        Ok(image) => Request::Run { image, bytes },
-        Err(ImageRefusal::Fault(fault)) => Request::Refused(CommandRefusal::NoImage(fault)),
-        Err(ImageRefusal::NoMemory) => Request::NoMemory,
+    files.read_file(alloc, words[index].as_str(), limit)
+}
+
+// A file that is longer than an image may be is none, by this fault.
+fn too_long() -> ImageFault
+    ensures { (file : List ℕ) → image_bytes < length file → fault_of file ≡ Some result }
+{
+    long_files_are_none();
+    ImageFault {
+        reason: ImageReason::TooLong,
+        place: IMAGE_BYTES as u64,
     }
 }
 
-// A file that is longer than an image may be is none.
-fn refuse_long() -> Request
-    ensures { (file : List ℕ) → IMAGE_BYTES < length file → IsOfFile file result }
+// Reads the image in the file that the word at an index names.
+fn read_image_file<F: Files>(
+    alloc: Global,
+    words: &[String],
+    index: usize,
+    files: &mut F,
+) -> Result<ImageFile, Stop>
+    requires { index < length words.now }
+    ensures is { IsImageAt (map string_bytes words.now) (F.state files.old).contents index result }
+    ensures cause { HasReadCause (map string_bytes words.now) (F.state files.old) (F.state files.new) result }
+    ensures contents { (F.state files.new).contents ≡ (F.state files.old).contents }
 {
-    long_files_are_none();
-    Request::Refused(CommandRefusal::NoImage(ImageFault {
-        reason: ImageReason::TooLong,
-        place: IMAGE_BYTES as u64,
-    }))
+    let bytes = match read_named(alloc, words, index, IMAGE_BYTES, files) {
+        Ok(bytes) => bytes,
+        Err(FileRefusal::TooLong) => return Err(Stop::Refused(CommandRefusal::NoImage(too_long()))),
+        Err(FileRefusal::Failed) => return Err(Stop::Refused(CommandRefusal::CannotRead { index })),
+        Err(FileRefusal::NoMemory) => return Err(Stop::NoMemory),
+    };
+    match read_image(alloc, &bytes) {
+        Ok(image) => Ok(ImageFile { image, bytes }),
+        Err(ImageRefusal::Fault(fault)) => Err(Stop::Refused(CommandRefusal::NoImage(fault))),
+        Err(ImageRefusal::NoMemory) => Err(Stop::NoMemory),
+    }
 }
 
-/// Reads the words and then the file that they name.
+// Reads the schedule in the file that the word at an index names.
+fn read_schedule_file<F: Files>(
+    alloc: Global,
+    words: &[String],
+    index: usize,
+    files: &mut F,
+) -> Result<Schedule, Stop>
+    requires { index < length words.now }
+    ensures is { IsScheduleFileAt (map string_bytes words.now) (F.state files.old).contents index result }
+    ensures cause { HasReadCause (map string_bytes words.now) (F.state files.old) (F.state files.new) result }
+    ensures contents { (F.state files.new).contents ≡ (F.state files.old).contents }
+{
+    let text = match read_named(alloc, words, index, LIST_BYTES, files) {
+        Ok(text) => text,
+        Err(FileRefusal::TooLong) => {
+            return Err(Stop::Refused(CommandRefusal::NoSchedule { line: 0 }));
+        }
+        Err(FileRefusal::Failed) => return Err(Stop::Refused(CommandRefusal::CannotRead { index })),
+        Err(FileRefusal::NoMemory) => return Err(Stop::NoMemory),
+    };
+    match read_schedule(alloc, &text) {
+        Ok(schedule) => Ok(schedule),
+        Err(ScheduleRefusal::Line(line)) => {
+            Err(Stop::Refused(CommandRefusal::NoSchedule { line }))
+        }
+        Err(ScheduleRefusal::NoMemory) => Err(Stop::NoMemory),
+    }
+}
+
+// The schedule that the options name, which is empty where they name none.
+fn read_option<F: Files>(
+    alloc: Global,
+    words: &[String],
+    options: &Options,
+    files: &mut F,
+) -> Result<Schedule, Stop>
+    requires { IfSome options.now.schedule (λ index. index < length words.now) }
+    ensures is { IsOptionRead (map string_bytes words.now) (F.state files.old).contents options.now.schedule result }
+    ensures cause { HasReadCause (map string_bytes words.now) (F.state files.old) (F.state files.new) result }
+    ensures contents { (F.state files.new).contents ≡ (F.state files.old).contents }
+{
+    match options.schedule {
+        Some(index) => read_schedule_file(alloc, words, index, files),
+        None => Ok(Schedule::new(Vec::new(alloc))),
+    }
+}
+
+// Reads what a command names.
+fn read_guest<F: Files>(
+    alloc: Global,
+    words: &[String],
+    options: &Options,
+    index: usize,
+    files: &mut F,
+) -> Result<Guest, Stop>
+    requires { IsCommand (map string_bytes words.now) options.now index }
+    ensures usable { IsUsable (map string_bytes words.now) (request_by result) }
+    ensures comes { ComesOf (map string_bytes words.now) (F.state files.old).contents (request_by result) }
+    ensures files { HasFilesCause (map string_bytes words.now) (F.state files.old) (F.state files.new) (request_by result) }
+    ensures contents { (F.state files.new).contents ≡ (F.state files.old).contents }
+{
+    let ImageFile { image, bytes } = read_image_file(alloc, words, index, files)?;
+    let schedule = read_option(alloc, words, options, files)?;
+    let config = options.config;
+    if image.pages > config.frames {
+        return Err(Stop::Refused(CommandRefusal::NoFrames {
+            pages: image.pages,
+            frames: config.frames,
+        }));
+    }
+    Ok(Guest {
+        config,
+        schedule,
+        image,
+        bytes,
+    })
+}
+
+/// Reads the words, then the image's file, the image, the schedule's file and the schedule, and counts the frames. What stands later in
+/// this order is not asked for where something is refused.
 pub fn read_request<F: Files>(alloc: Global, words: &[String], files: &mut F) -> Request
-    ensures words { HasWordsCause (map string_bytes words.now) result }
     ensures usable { IsUsable (map string_bytes words.now) result }
-    ensures seen { IfSome (F.state files.old).contents (λ contents. IsRequestOf (map string_bytes words.now) contents result) }
+    ensures comes { ComesOf (map string_bytes words.now) (F.state files.old).contents result }
     ensures files { HasFilesCause (map string_bytes words.now) (F.state files.old) (F.state files.new) result }
     ensures contents { (F.state files.new).contents ≡ (F.state files.old).contents }
 {
-    let Some(name) = read_words(words) else {
-        return Request::Refused(CommandRefusal::Usage);
+    let (options, index) = match read_words(words) {
+        Ok(Command::Run { options, image }) => (options, image),
+        Err(fault) => return Request::Refused(CommandRefusal::Usage { place: fault.place }),
     };
-    match files.read_file(alloc, name, IMAGE_BYTES) {
-        Ok(bytes) => request_image(alloc, bytes),
-        Err(FileRefusal::TooLong) => refuse_long(),
-        Err(FileRefusal::Failed) => Request::Refused(CommandRefusal::CannotRead { place: NAME }),
-        Err(FileRefusal::NoMemory) => Request::NoMemory,
+    match read_guest(alloc, words, &options, index, files) {
+        Ok(guest) => Request::Run(guest),
+        Err(Stop::Refused(refusal)) => Request::Refused(refusal),
+        Err(Stop::NoMemory) => Request::NoMemory,
     }
 }

@@ -3,13 +3,12 @@ ghost use Rattle.std.specs.Prelude.{◌≡◌, ◌≢◌, ◌<◌, ◌≤◌, �
 ghost use Rattle.outside_io.specs.States.{PrintsText};
 ghost use Rattle.outside_io.specs.Parts.{Prints, console, out_part, err_part};
 ghost use Rattle.outside_io.specs.Moments.{Leaves, Goes};
-ghost use Rattle.ufork_program.specs.Numbers.{most_steps};
+ghost use Rattle.machine_types.specs.Numbers.{most_steps};
 ghost use Rattle.ufork_program.specs.Machine.{Machine, IsSound};
 ghost use Rattle.ufork_program.specs.Steps.{step_of, step_parts, ended_line};
 ghost use Rattle.ufork_program.specs.Run.{run_moments, run_end, course_from};
 ghost use Rattle.ufork_program.specs.Kernel.{KernelStands, StandsForSome, IsLeftIn};
 
-use crate::MOST_STEPS;
 use crate::kernel::Kernel;
 use crate::lines::{write_exit, write_last};
 use outside_io::{Failed, Sink};
@@ -92,18 +91,20 @@ pub fn run_machine<S: Stores, O: Sink, E: Sink>(
     Ok(())
 }
 
-/// Makes a run from its start on, and writes its parts and its last line. The status is that of the run's end.
+/// Makes a run of at most so many steps from its start on, and writes its parts and its last line. The status is that of the run's end.
 pub fn print_run<S: Stores, O: Sink, E: Sink>(
     kernel: &mut Kernel<S>,
+    limit: u64,
     out: &mut O,
     err: &mut E,
 ) -> Result<u8, Failed>
+    requires limit { limit ≤ most_steps }
     requires begun { kernel.old.steps ≡ 0 }
     requires sound { ∥ StandsForSome S.stands_for kernel.old IsSound ∥₁ }
-    ensures { (m : Machine) → KernelStands S.stands_for kernel.old m → Goes (course_from m MOST_STEPS) (IsLeftIn S.stands_for kernel.new)
+    ensures { (m : Machine) → KernelStands S.stands_for kernel.old m → Goes (course_from m limit) (IsLeftIn S.stands_for kernel.new)
         (console (O.state out.old) (E.state err.old)) (console (O.state out.new) (E.state err.new)) result }
 {
-    run_machine(kernel, MOST_STEPS, out, err)?;
+    run_machine(kernel, limit, out, err)?;
     let live = kernel.is_live();
     write_last(live, kernel.steps(), err)?;
     Ok(if live { 8 } else { 0 })

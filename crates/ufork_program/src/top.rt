@@ -1,24 +1,22 @@
 // The top call.
-ghost use Rattle.std.specs.Prelude.{◌≡◌, ◌≢◌, [], Ok, MatchResult, map, string_bytes};
+ghost use Rattle.std.specs.Prelude.{◌≡◌, Ok, Err, MatchResult, map, string_bytes};
 ghost use Rattle.cap_format.specs.Numbers.{most_frames};
 ghost use Rattle.outside_io.specs.States.{outside};
 ghost use Rattle.outside_io.specs.Parts.{console};
-ghost use Rattle.outside_io.specs.Answers.{Answers, refusal, write_fault};
+ghost use Rattle.outside_io.specs.Answers.{Answers, write_fault};
 ghost use Rattle.outside_io.specs.Moments.{EndsAt};
 ghost use Rattle.stores.specs.Boards.{IsEmpty, made_frames};
-ghost use Rattle.ufork_program.specs.Numbers.{most_steps};
 ghost use Rattle.ufork_program.specs.Run.{run_course};
-ghost use Rattle.elf_loader.specs.Loaded.{IsRead};
-ghost use Rattle.ufork_program.specs.Answer.{cannot_read, image_refused};
-ghost use Rattle.ufork_program.specs.Request.{course_of, refusal_of, IsUsable};
+ghost use Rattle.ufork_program.specs.Request.{course_of, refusal_of, CanRun, IsUsable};
 ghost use Rattle.ufork_program.specs.Headline.{call, IsLeftOn, Went, Promises};
 
 use crate::kernel::Kernel;
-use crate::lines::{write_cannot_read, write_image_refused};
-use crate::request::{CommandRefusal, Request, read_request};
+use crate::lines::{
+    write_cannot_read, write_frames_lacked, write_image_refused, write_schedule_refused,
+    write_usage,
+};
+use crate::request::{CommandRefusal, Guest, Request, read_request};
 use crate::run::print_run;
-use cap_format::{ImageFault, MOST_FRAMES};
-use elf_loader::Image;
 use full_space::FullSpace;
 use outside_io::{Failed, Files, Sink, Source};
 use std::alloc::Global;
@@ -33,35 +31,15 @@ pub struct Ended {
     pub board: Board,
 }
 
-// Writes the line of a refusal. The output stays as it was.
-fn write_refusal<O: Sink, E: Sink>(
-    status: u8,
-    line: &[u8],
-    out: &O,
-    err: &mut E,
-) -> Result<u8, Failed>
-    requires some { line.now ≢ [] }
-    ensures { Answers (refusal status line.now) (console (O.state out.now) (E.state err.old)) (console (O.state out.now) (E.state err.new)) result }
+// The answer to a refusal whose line was written, or cut.
+fn answered(status: u8, written: Result<(), Failed>) -> Result<u8, Failed>
+    ensures { MatchResult written (λ _. result ≡ Ok status) (λ failed. result ≡ Err failed) }
 {
-    err.write(line)?;
+    written?;
     Ok(status)
 }
 
-fn refuse_name<O: Sink, E: Sink>(name: &str, out: &O, err: &mut E) -> Result<u8, Failed>
-    ensures { Answers (cannot_read name.now) (console (O.state out.now) (E.state err.old)) (console (O.state out.now) (E.state err.new)) result }
-{
-    write_cannot_read(name, err)?;
-    Ok(3)
-}
-
-fn refuse_image<O: Sink, E: Sink>(fault: ImageFault, out: &O, err: &mut E) -> Result<u8, Failed>
-    ensures { Answers (image_refused fault) (console (O.state out.now) (E.state err.old)) (console (O.state out.now) (E.state err.new)) result }
-{
-    write_image_refused(fault, err)?;
-    Ok(4)
-}
-
-// Refuses a command: its line on the errors, and its status.
+// Refuses a command: its line on the errors, and its status. The output stays as it was.
 fn refuse<O: Sink, E: Sink>(
     words: &[String],
     refused: CommandRefusal,
@@ -72,30 +50,37 @@ fn refuse<O: Sink, E: Sink>(
     ensures { Answers (refusal_of (map string_bytes words.now) refused) (console (O.state out.now) (E.state err.old)) (console (O.state out.now) (E.state err.new)) result }
 {
     match refused {
-        CommandRefusal::Usage => write_refusal(2, b"ufork: usage\n", out, err),
-        CommandRefusal::CannotRead { place } => refuse_name(words[place].as_str(), out, err),
-        CommandRefusal::NoImage(fault) => refuse_image(fault, out, err),
+        CommandRefusal::Usage { place } => answered(2, write_usage(place, err)),
+        CommandRefusal::CannotRead { index } => {
+            answered(3, write_cannot_read(words[index].as_str(), err))
+        }
+        CommandRefusal::NoImage(fault) => answered(4, write_image_refused(fault, err)),
+        CommandRefusal::NoSchedule { line } => answered(5, write_schedule_refused(line, err)),
+        CommandRefusal::NoFrames { pages, frames } => answered(
+            12,
+            write_frames_lacked(u64::from(pages), u64::from(frames), err),
+        ),
     }
 }
 
-// Runs an image, which was read from these bytes, on an empty board.
-fn run_image<O: Sink, E: Sink>(
-    image: &Image,
-    bytes: &[u8],
-    board: Board,
-    out: &mut O,
-    err: &mut E,
-) -> Ended
-    requires read { IsRead bytes.now (Ok image.now) }
+// Runs a guest on an empty board.
+fn run_guest<O: Sink, E: Sink>(guest: Guest, board: Board, out: &mut O, err: &mut E) -> Ended
+    requires can { CanRun guest }
     requires empty { IsEmpty board }
     requires made { made_frames board ≡ most_frames }
-    ensures { EndsAt (run_course bytes.now most_steps) (IsLeftOn board result.board)
+    ensures { EndsAt (run_course guest.config guest.schedule guest.bytes.items) (IsLeftOn board result.board)
         (console (O.state out.old) (E.state err.old)) (console (O.state out.new) (E.state err.new)) result.status }
 {
+    let Guest {
+        config,
+        schedule,
+        image,
+        bytes,
+    } = guest;
     let mut board = board;
-    board.set_frames(MOST_FRAMES as u32);
-    let mut kernel = Kernel::boot(image, bytes, FullSpace::new(board));
-    let status = status_of(print_run(&mut kernel, out, err));
+    board.set_frames(config.frames);
+    let mut kernel = Kernel::boot(config, schedule, &image, &bytes, FullSpace::new(board));
+    let status = status_of(print_run(&mut kernel, config.steps, out, err));
     Ended {
         status,
         board: kernel.into_space().into_board(),
@@ -117,7 +102,7 @@ fn answer_request<O: Sink, E: Sink>(
         (console (O.state out.old) (E.state err.old)) (console (O.state out.new) (E.state err.new)) result.status }
 {
     let written = match request {
-        Request::Run { image, bytes } => return run_image(&image, &bytes, board, out, err),
+        Request::Run(guest) => return run_guest(guest, board, out, err),
         Request::NoMemory => Ok(10),
         Request::Refused(refusal) => refuse(words, refusal, out, err),
     };
@@ -159,22 +144,27 @@ fn read_and_write<F: Files, I: Source, O: Sink, E: Sink>(
 
 /// Does all that the program does, and gives the status with which it ends and the board.
 ///
-/// `words` are those of the command line without the program's name. So far there is one command, `run NAME`: it runs the image in
-/// the file `NAME`, writes the console's bytes to `out`, and to `err` a line for the end of the process and one for the end of the
-/// run. A run makes at most 20000000 steps.
+/// `words` are those of the command line without the program's name. So far there is one command, `run`, with six options, and then the
+/// name of an image's file. It runs the image, writes the console's bytes to `out`, and to `err` a line for the end of the process and
+/// one for the end of the run.
 ///
-/// `board` is empty and was made with [`MOST_FRAMES`] frames. It comes back as the machine's stores at the end, and empty where
-/// nothing was run.
+/// `board` is empty and was made with [`MOST_FRAMES`](cap_format::MOST_FRAMES) frames. It comes back as the machine's stores at the
+/// end, and empty where nothing was run.
+///
+/// What is refused is told in this order, and what stands later in it is not asked for: the words, the image's file, the image, the
+/// schedule's file, the schedule, the frames.
 ///
 /// | Status | When | What `err` gains |
 /// |---|---|---|
 /// | 0 | the process ended | `exit 1 STATUS` and `done STEPS` |
-/// | 2 | the words are no command | `ufork: usage` |
-/// | 3 | the file was not read: its count of faults rose | `ufork: cannot read NAME` |
-/// | 4 | the file is no image | `ufork: image refused: REASON at PLACE` |
+/// | 2 | the words are no command | `ufork: usage: word PLACE` |
+/// | 3 | a file was not read: its count of faults rose | `ufork: cannot read NAME` |
+/// | 4 | the image's file is no image | `ufork: image refused: REASON at PLACE` |
+/// | 5 | the schedule's text is none | `ufork: schedule refused: line LINE` |
 /// | 7 | a write failed: the count of `out` or of `err` rose | what came before it |
-/// | 8 | the process is live after the most steps | `stopped STEPS` |
-/// | 10 | memory was wanted for the file or for the image | nothing |
+/// | 8 | the process is live after the configured steps | `stopped STEPS` |
+/// | 10 | memory was wanted for a file or for what was read of it | nothing |
+/// | 12 | the image has more pages than there are frames | `ufork: image needs PAGES pages, FRAMES frames` |
 ///
 /// The input is left as it was. Each sentence of the contract is a field of `Promises`, in specs/Headline.antt.
 pub fn ufork<F: Files, I: Source, O: Sink, E: Sink>(

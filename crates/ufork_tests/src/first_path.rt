@@ -12,41 +12,6 @@ fn an_image_of_one_page_writes_hi(rt: HostRuntime) -> Result<(), Fail> {
 }
 
 #[test]
-fn refusals_have_their_lines(rt: HostRuntime) -> Result<(), Fail> {
-    let rows: [(&'static str, bool, u8, &'static [u8]); 9] = [
-        ("walk guest", false, 2, b"ufork: usage\n"),
-        ("", false, 2, b"ufork: usage\n"),
-        ("run", false, 2, b"ufork: usage\n"),
-        ("run ", false, 2, b"ufork: usage\n"),
-        ("run -guest", false, 2, b"ufork: usage\n"),
-        ("run guest guest", false, 2, b"ufork: usage\n"),
-        ("run no", false, 3, b"ufork: cannot read no\n"),
-        ("run guest", true, 3, b"ufork: cannot read guest\n"),
-        (
-            "run five",
-            false,
-            4,
-            b"ufork: image refused: Truncated at 5\n",
-        ),
-    ];
-    for (words, file_fails, status, err) in rows {
-        let given = Given {
-            words,
-            file_fails,
-            ..RUN
-        };
-        let want = Want {
-            status,
-            out: b"",
-            err,
-            left: Left::Nothing,
-        };
-        check(&rt, &HI, given, want)?;
-    }
-    Ok(())
-}
-
-#[test]
 fn a_write_past_the_bounds_is_refused(rt: HostRuntime) -> Result<(), Fail> {
     check_done(&rt, &BOUNDS, b"", b"exit 1 242\ndone 8\n")
 }

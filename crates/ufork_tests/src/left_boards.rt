@@ -1,8 +1,9 @@
 // The boards that come back from runs and refusals.
 use crate::boards::Left;
-use crate::images::{BOUNDS, HI, page_of};
+use crate::files::change;
+use crate::images::{BOUNDS, HI, image_of, page_of};
 use crate::instrs::five_writes;
-use crate::runs::{Given, RUN, Want, check, check_done};
+use crate::runs::{Given, RUN, Want, check, check_done, check_file};
 use std::test::Fail;
 
 #[test]
@@ -16,31 +17,37 @@ fn a_process_that_ended_leaves_nothing(rt: HostRuntime) -> Result<(), Fail> {
 
 #[test]
 fn a_refusal_leaves_nothing(rt: HostRuntime) -> Result<(), Fail> {
-    let rows: [(&'static str, u8, &'static [u8]); 3] = [
-        ("run", 2, b"ufork: usage\n"),
+    let rows: [(&'static str, u8, &'static [u8]); 6] = [
+        ("run", 2, b"ufork: usage: word 2\n"),
         ("run no", 3, b"ufork: cannot read no\n"),
         ("run five", 4, b"ufork: image refused: Truncated at 5\n"),
+        ("run --schedule no guest", 3, b"ufork: cannot read no\n"),
+        (
+            "run --schedule s guest",
+            5,
+            b"ufork: schedule refused: line 2\n",
+        ),
+        (
+            "run --frames 1 guest",
+            12,
+            b"ufork: image needs 2 pages, 1 frames\n",
+        ),
     ];
+    let mut guest = image_of(rt.alloc(), &HI)?;
+    change(&mut guest, (104, 8, 8192));
     for (words, status, err) in rows {
-        let given = Given { words, ..RUN };
-        let want = Want {
-            status,
-            out: b"",
-            err,
-            left: Left::Nothing,
+        let given = Given {
+            words,
+            schedule: b"10\n0\n",
+            ..RUN
         };
-        check(&rt, &HI, given, want)?;
+        check_file(&rt, words, &guest, given, (status, b"", err))?;
         // The same where its line is cut.
         let given = Given {
             err_fails: Some(0),
             ..given
         };
-        let want = Want {
-            status: 7,
-            err: b"",
-            ..want
-        };
-        check(&rt, &HI, given, want)?;
+        check_file(&rt, words, &guest, given, (7, b"", b""))?;
     }
     Ok(())
 }

@@ -13,6 +13,8 @@ mod caps;
 #[cfg(test)]
 mod causes;
 #[cfg(test)]
+mod commands;
+#[cfg(test)]
 mod console;
 #[cfg(test)]
 mod cut_lines;
@@ -46,5 +48,7 @@ mod relocations;
 mod rows;
 #[cfg(test)]
 mod runs;
+#[cfg(test)]
+mod schedules;
 #[cfg(test)]
 mod starts;

@@ -11,11 +11,13 @@ use ufork_program::{Ended, ufork};
 
 /// What a run is given besides the file `guest`. The file `five` has 5 bytes.
 #[derive(Clone, Copy)]
-pub struct Given {
+pub struct Given<'a> {
     /// The words, parted by single spaces. There are none where it is empty.
-    pub words: &'static str,
-    /// Whether the first read of a file fails.
-    pub file_fails: bool,
+    pub words: &'a str,
+    /// The text of the file `s`.
+    pub schedule: &'a [u8],
+    /// The read of a file that fails, from 0.
+    pub file_fails: Option<u64>,
     /// The write to the output that fails, from 0.
     pub out_fails: Option<u64>,
     /// The room of the output.
@@ -27,9 +29,10 @@ pub struct Given {
 }
 
 /// A run of the guest in which nothing fails.
-pub const RUN: Given = Given {
+pub const RUN: Given<'static> = Given {
     words: "run guest",
-    file_fails: false,
+    schedule: b"",
+    file_fails: None,
     out_fails: None,
     out_room: 4096,
     err_fails: None,
@@ -63,16 +66,15 @@ fn words(alloc: Global, line: &str) -> Result<Vec<String>, Fail> {
     Ok(words)
 }
 
-fn files(alloc: Global, guest: &[u8], fails: bool) -> Result<MemoryFiles, Fail> {
-    let mut bytes = Vec::new(alloc);
-    bytes.extend_from_slice(guest)?;
-    let contents: [(&str, Vec<u8>); 2] = [("guest", bytes), ("five", vec![in alloc; 0_u8; 5]?)];
+fn files(alloc: Global, guest: &[u8], given: Given<'_>) -> Result<MemoryFiles, Fail> {
+    let contents: [(&str, &[u8]); 3] = [("guest", guest), ("five", &[0; 5]), ("s", given.schedule)];
     let mut entries = Vec::new(alloc);
     for (name, content) in contents {
-        entries.push((String::from_str(alloc, name)?, content))?;
+        let mut bytes = Vec::new(alloc);
+        bytes.extend_from_slice(content)?;
+        entries.push((String::from_str(alloc, name)?, bytes))?;
     }
-    let failing = if fails { Some(0) } else { None };
-    Ok(MemoryFiles::new(entries, calls(alloc, failing)?))
+    Ok(MemoryFiles::new(entries, calls(alloc, given.file_fails)?))
 }
 
 /// How a run ended.
@@ -85,9 +87,9 @@ pub struct Ran {
 }
 
 /// Makes a run of the file `guest` that has these bytes.
-pub fn run_file(alloc: Global, guest: &[u8], given: Given) -> Result<Ran, Fail> {
+pub fn run_file(alloc: Global, guest: &[u8], given: Given<'_>) -> Result<Ran, Fail> {
     let words = words(alloc, given.words)?;
-    let mut files = files(alloc, guest, given.file_fails)?;
+    let mut files = files(alloc, guest, given)?;
     let mut input = MemorySource::new(Vec::new(alloc), 1, Vec::new(alloc));
     let mut out = MemorySink::new(alloc, given.out_room, calls(alloc, given.out_fails)?)?;
     let mut err = MemorySink::new(alloc, given.err_room, calls(alloc, given.err_fails)?)?;
@@ -107,7 +109,7 @@ pub fn run_file(alloc: Global, guest: &[u8], given: Given) -> Result<Ran, Fail> 
 pub fn check(
     rt: &(impl Abort + AllocGlobal),
     page: &[u8],
-    given: Given,
+    given: Given<'_>,
     want: Want<'_>,
 ) -> Result<(), Fail> {
     let ran = run_file(rt.alloc(), &image_of(rt.alloc(), page)?, given)?;
@@ -123,7 +125,7 @@ pub fn check_file(
     rt: &(impl Abort + AllocGlobal),
     case: &str,
     guest: &[u8],
-    given: Given,
+    given: Given<'_>,
     want: (u8, &[u8], &[u8]),
 ) -> Result<(), Fail> {
     let ran = run_file(rt.alloc(), guest, given)?;

@@ -1,11 +1,13 @@
-use Rattle.std.proofs.Common.{ℕ, List, Option, ap, ◌∙◌}
-use Rattle.ufork_program.specs.Answer.{word_course, file_course, image_course}
+use Rattle.ufork_program.proofs.CourseLemmas.{words_lead, unread_leads, no_image_leads, no_text_leads, no_schedule_leads, no_frames_lead, run_leads}
 use Rattle.ufork_program.proofs.laws.courses_are_exact.Goals as goal
 
 pub returns : goal.returns
 returns g = record {
-  words = λ words contents none. ap (λ (w : Option (List ℕ)). word_course w contents) none;
-  file = λ words contents name word none. ap (λ (w : Option (List ℕ)). word_course w contents) word ∙ ap (file_course name) none;
-  image = λ words contents name content fault word held is. ap (λ (w : Option (List ℕ)). word_course w contents) word ∙ ap (file_course name) held ∙ ap (image_course content) is;
-  run = λ words contents name content word held is. ap (λ (w : Option (List ℕ)). word_course w contents) word ∙ ap (file_course name) held ∙ ap (image_course content) is;
+  words = words_lead;
+  unread = unread_leads;
+  image = no_image_leads;
+  no_text = no_text_leads;
+  schedule = no_schedule_leads;
+  frames = no_frames_lead;
+  run = run_leads;
 }

@@ -6,7 +6,7 @@ use Rattle.ufork_program.proofs.lines.Line.put_number.Goals as goal
 pub write_digits-self-inside-requires : goal.write_digits-self-inside-requires
 write_digits-self-inside-requires c =
     let n_fits : c.args.n < 2 ^ 64 = omega arith in
-    let buffer : length c.self.inside.bytes ≡ 64 = c.self.told in
+    let buffer : length c.self.inside.bytes ≡ 96 = c.self.told in
     let view : length (drop c.self.inside.start c.self.inside.bytes) ≡ length c.args.self.now = ap length c.self.view_is in
     (omega (arith, length-decimal-le20 c.args.n n_fits, simp length-drop at view, c.self.invariant), omega (arith, c.self.invariant))
 

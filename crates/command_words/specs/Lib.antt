@@ -1,0 +1,5 @@
+pub mod Numbers
+pub mod Grammar
+pub mod Commands
+pub mod Reading
+pub mod Sayings

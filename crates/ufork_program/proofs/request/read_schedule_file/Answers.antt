@@ -1,0 +1,8 @@
+use Rattle.std.proofs.Common.{map, string_bytes}
+use Rattle.ufork_program.proofs.RequestLemmas.{long_text}
+use Rattle.ufork_program.proofs.request.read_schedule_file.Goals as goal
+
+pub returns-in-Err-TooLong-clause-is : goal.returns-in-Err-TooLong-clause-is
+returns-in-Err-TooLong-clause-is g c =
+    let is = c.in-Err-TooLong.field-0-is in
+    long_text (map string_bytes c.args.words.now) (g.F.Files.state c.args.files.now).contents c.args.index (rw is at c.in-Err-TooLong.ensures.content)

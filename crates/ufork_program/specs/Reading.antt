@@ -1,0 +1,90 @@
+-- What each file that a command names comes to, before a request is made of it.
+use Rattle.std.specs.Prelude.{◌≡◌, ℕ, List, [], Some, None, IfSome, Result, Ok, Err, MatchResult, length, ⊤}
+use Rattle.std.specs.declared.option.Option.{Option}
+use Rattle.outside_io.specs.States.{FilesState}
+use Rattle.cap_format.specs.declared.image.ImageFault.{ImageFault}
+use Rattle.cap_format.specs.Image.{fault_of}
+use Rattle.elf_loader.specs.Loaded.{IsRead}
+use Rattle.command_words.specs.declared.words.Options.{Options}
+use Rattle.command_words.specs.declared.words.Command.TheVariants as command
+use Rattle.command_words.specs.Commands.{read_of}
+use Rattle.command_words.specs.Sayings.{IsCommandOf}
+use Rattle.run_texts.specs.Schedules.{schedule_of}
+use Rattle.ufork_program.specs.Answer.{named_by}
+use Rattle.ufork_program.specs.Request.{HasFilesCause}
+use Rattle.ufork_program.specs.declared.request.Guest.{Guest}
+use Rattle.ufork_program.specs.declared.request.Request.{Request}
+use Rattle.ufork_program.specs.declared.request.Request.TheVariants as request
+use Rattle.ufork_program.specs.declared.request.CommandRefusal.TheVariants.{Usage, CannotRead, NoImage, NoSchedule, NoFrames}
+use Rattle.ufork_program.specs.declared.request.Stop.{Stop}
+use Rattle.ufork_program.specs.declared.request.Stop.TheVariants.{Refused, NoMemory}
+use Rattle.ufork_program.specs.declared.request.ImageFile.{ImageFile}
+
+-- what names hold, where that is told
+abbrev pub Told : Type 0
+Told = Option (List ℕ → Option (List ℕ))
+
+-- the words are a command with these options, and the word at this index names its image's file
+pub record IsCommand (words : List (List ℕ)) (options : Options) (image : ℕ) : Type 0 where
+  pub is : read_of words ≡ Ok (command.Run options image)
+  pub within : IsCommandOf (length words) (command.Run options image)
+
+-- where contents are told, the file that the word at an index names has this content
+pub record IsToldAt (words : List (List ℕ)) (told : Told) (index : ℕ) (content : List ℕ) : Type 0 where
+  pub content_is : IfSome told (λ contents. named_by words contents index ≡ Some content)
+
+-- some content that may stand there is no image, by this fault
+pub record IsNoImageAt (words : List (List ℕ)) (told : Told) (index : ℕ) (fault : ImageFault) : Type 0 where
+  pub file : List ℕ
+  pub told_is : IsToldAt words told index file
+  pub fault_is : fault_of file ≡ Some fault
+
+-- some text that may stand there is this schedule, or is wrong at this line
+pub record IsScheduleTextAt (words : List (List ℕ)) (told : Told) (index : ℕ) (schedule : Result (List (ℕ × ℕ)) ℕ) : Type 0 where
+  pub text : List ℕ
+  pub told_is : IsToldAt words told index text
+  pub is : schedule_of text ≡ schedule
+
+-- An image was read from bytes that may stand at this index; or what stands there is none, its file failed, or memory was wanted.
+abbrev pub IsImageAt : List (List ℕ) → Told → ℕ → Result ImageFile Stop → Type 0
+IsImageAt words told index (Ok found) = IsRead found.bytes.items (Ok found.image) × IsToldAt words told index found.bytes.items
+IsImageAt words told index (Err (Refused (Usage place))) = ⊥
+IsImageAt words told index (Err (Refused (CannotRead failed))) = failed ≡ index
+IsImageAt words told index (Err (Refused (NoImage fault))) = IsNoImageAt words told index fault
+IsImageAt words told index (Err (Refused (NoSchedule line))) = ⊥
+IsImageAt words told index (Err (Refused (NoFrames pages frames))) = ⊥
+IsImageAt words told index (Err NoMemory) = ⊤
+
+-- The same of a schedule
+abbrev pub IsScheduleFileAt : List (List ℕ) → Told → ℕ → Result (List (ℕ × ℕ)) Stop → Type 0
+IsScheduleFileAt words told index (Ok schedule) = IsScheduleTextAt words told index (Ok schedule)
+IsScheduleFileAt words told index (Err (Refused (Usage place))) = ⊥
+IsScheduleFileAt words told index (Err (Refused (CannotRead failed))) = failed ≡ index
+IsScheduleFileAt words told index (Err (Refused (NoImage fault))) = ⊥
+IsScheduleFileAt words told index (Err (Refused (NoSchedule line))) = IsScheduleTextAt words told index (Err line)
+IsScheduleFileAt words told index (Err (Refused (NoFrames pages frames))) = ⊥
+IsScheduleFileAt words told index (Err NoMemory) = ⊤
+
+-- the schedule is empty where no option names one
+abbrev pub IsEmptySchedule : Result (List (ℕ × ℕ)) Stop → Type 0
+IsEmptySchedule (Ok schedule) = schedule ≡ []
+IsEmptySchedule (Err stop) = ⊥
+
+-- what was read for the option
+abbrev pub IsOptionRead : List (List ℕ) → Told → Option ℕ → Result (List (ℕ × ℕ)) Stop → Type 0
+IsOptionRead words told None result = IsEmptySchedule result
+IsOptionRead words told (Some index) result = IsScheduleFileAt words told index result
+
+-- what is answered where no guest was read
+abbrev pub stopped : Stop → Request
+stopped (Refused refusal) = request.Refused refusal
+stopped NoMemory = request.NoMemory
+
+-- and in each case
+abbrev pub request_by : Result Guest Stop → Request
+request_by (Ok guest) = request.Run guest
+request_by (Err stop) = stopped stop
+
+-- what was read raised no count, and what was not has its cause
+abbrev pub HasReadCause : {T : Type 0} → List (List ℕ) → FilesState → FilesState → Result T Stop → Type 0
+HasReadCause words old new result = MatchResult result (λ _. new.faults ≡ old.faults) (λ stop. HasFilesCause words old new (stopped stop))
