@@ -15,7 +15,7 @@ use Rattle.command_words.proofs.ArgumentsRead.{arguments-read}
 use Rattle.command_words.proofs.FaultsRead.{IsFirst, fault-read}
 
 -- words that are no command are read as their fault
-fault-read-of : (words : List Word) (place : ℕ) → is_command words ≡ false → IsFaultAt words place → read_of words ≡ fault_at place
+pub fault-read-of : (words : List Word) (place : ℕ) → is_command words ≡ false → IsFaultAt words place → read_of words ≡ fault_at place
 unfolding read_of
 fault-read-of words place none fault = rw none (ap fault_at (one-fault words (fault_place words) place (fault-of words) fault))
 

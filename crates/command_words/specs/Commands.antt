@@ -71,9 +71,12 @@ pub record IsFaultAt (words : List Word) (place : ℕ) : Type 0 where
   pub at : place ≤ length words → begins_command (take place words) ≡ false
 
 -- A list of words begins a command exactly where there are words that make it one. The place of a fault is what the sentence says, and
--- there is one such place; a command has none but the one behind it.
+-- there is one such place; a command has none but the one behind it. A command is read as what it says, and everything else is refused at
+-- that place.
 pub record CommandsAreExact : Type 0 where
   pub begins : (words more : List Word) → is_command (words ++ more) ≡ true → begins_command words ≡ true
   pub completed : (words : List Word) → begins_command words ≡ true → (more : List Word) × (is_command (words ++ more) ≡ true)
   pub place : (words : List Word) → is_command words ≡ false → IsFaultAt words (fault_place words)
   pub one : (words : List Word) (p q : ℕ) → IsFaultAt words p → IsFaultAt words q → p ≡ q
+  pub accepted : (words : List Word) → is_command words ≡ true → read_of words ≡ Ok (command_of words)
+  pub refused : (words : List Word) (place : ℕ) → is_command words ≡ false → IsFaultAt words place → read_of words ≡ Err (record { place = place })

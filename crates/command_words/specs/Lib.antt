@@ -3,3 +3,4 @@ pub mod Grammar
 pub mod Commands
 pub mod Reading
 pub mod Sayings
+pub mod Examples

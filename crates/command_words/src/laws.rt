@@ -2,6 +2,7 @@
 ghost use Rattle.command_words.specs.Numbers.{ConstantsAreFixed};
 ghost use Rattle.command_words.specs.Commands.{CommandsAreExact};
 ghost use Rattle.command_words.specs.Sayings.{SayingsAreExact};
+ghost use Rattle.command_words.specs.Examples.{WorkedCommandsHold};
 
 /// The constants of this crate are the numbers that the definitions fix.
 pub fn constants_are_fixed()
@@ -18,4 +19,9 @@ pub fn commands_are_exact()
 /// each option is the word behind its name or the default, and the image's name is the last word.
 pub fn sayings_are_exact()
     ensures { SayingsAreExact }
+{}
+
+/// Command lines that were worked out by hand are read as that.
+pub fn worked_commands_hold()
+    ensures { WorkedCommandsHold }
 {}

@@ -7,7 +7,7 @@
 mod laws;
 mod words;
 
-pub use laws::{commands_are_exact, constants_are_fixed, sayings_are_exact};
+pub use laws::{commands_are_exact, constants_are_fixed, sayings_are_exact, worked_commands_hold};
 pub use words::{Command, Options, WordFault, read_words};
 
 /// The number of frames where no option says it.

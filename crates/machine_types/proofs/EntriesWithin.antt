@@ -49,7 +49,7 @@ repeats-within k None found =
 repeats-within k (Some text) found = number-within 1 most_repeats k text found
 
 -- what a line says
-entry-within : (least most n k : ℕ) (line : List ℕ) → entry_of least most line ≡ Some (n, k) → IsEntryWithin least most (n, k)
+pub entry-within : (least most n k : ℕ) (line : List ℕ) → entry_of least most line ≡ Some (n, k) → IsEntryWithin least most (n, k)
 entry-within least most n k line said = record {
   number = number-within least most n (before_star line) (paired-number (number_in least most (before_star line)) (repeats_of (behind_star line)) n k said);
   repeats = repeats-within k (behind_star line) (paired-repeats (number_in least most (before_star line)) (repeats_of (behind_star line)) n k said);

@@ -1,7 +1,7 @@
 -- The line at which a list is refused is the first wrong one.
 use Rattle.std.proofs.Common.{◌≡◌, ◌⊎◌, inl, inr, ⊎_elim, ℕ, zero, suc, ◌≤◌, ◌<◌, ◌+◌, ◌-◌, ◌&&◌, leb, true, false, refl, arith}
 use Rattle.std.proofs.Common.{is_some, IsSome, Option, Some, None, Err, List, [], ◌∷◌, length, get_or}
-use Rattle.std.proofs.lemmas.Bool.{cases_Bool, and_parts, and_cases, leb-true, leb-false}
+use Rattle.std.proofs.lemmas.Bool.{cases_Bool, cases_order, false≢true, and_parts, and_cases, leb-true, leb-false}
 use Rattle.machine_types.specs.Numbers.{most_lines, list_bytes}
 use Rattle.machine_types.specs.NumberLists.{lines_of, entry_of, first_wrong, list_with, list_of, IsFirstWrong}
 use Rattle.machine_types.proofs.LinesRead.{list_from, short-text}
@@ -78,3 +78,23 @@ pub text-refused : (least most n : ℕ) (text : List ℕ) → length text ≤ li
 text-refused least most n text short refused =
     let from : list_from least most 1 (lines_of text) ≡ Err n = rw (short-text least most text short) at refused in
     first-wrong-is least most 1 n (lines_of text) (omega arith) (refused-wrong least most n (lines_of text) (first_wrong least most 1 (lines_of text)) from)
+
+-- of two first wrong lines none is before the other
+not-before : (least most p q : ℕ) (lines : List (List ℕ)) → IsFirstWrong least most 1 p lines → IsFirstWrong least most 1 q lines → p < q → ⊥
+not-before least most p q lines first second below = ⊎_elim (λ late. omega (arith, second.early)) nothing first.here
+  where
+    nothing : entry_of least most (get_or lines (p - 1) []) ≡ None → ⊥
+    nothing none =
+        let some : is_some (entry_of least most (get_or lines (p - 1) [])) ≡ true = second.before (p - 1) (omega (arith, first.from)) in
+        let wrong : false ≡ true = rw none at some in
+        false≢true wrong
+
+-- lines have one first wrong line
+pub one-wrong : (least most p q : ℕ) (lines : List (List ℕ)) → IsFirstWrong least most 1 p lines → IsFirstWrong least most 1 q lines → p ≡ q
+one-wrong least most p q lines first second = elim (cases_order p q) [
+  | inl same ↦ same
+  | inr apart ↦ elim apart [
+    | inl below ↦ absurd (not-before least most p q lines first second below)
+    | inr above ↦ absurd (not-before least most q p lines second first above)
+  ]
+]

@@ -91,18 +91,22 @@ pub record IsFirstWrong (least most m n : ℕ) (lines : List (List ℕ)) : Type 
   pub before : (k : ℕ) → k + m < n → IsSome (entry_of least most (get_or lines k []))
   pub here : (most_lines < n) ⊎ (entry_of least most (get_or lines (n - m) []) ≡ None)
 
--- Lines are read back, with or without the last line feed; so are a number alone, which stands once, and one that is repeated. A text is
--- refused at its first wrong line, and a longer one at line 0. It is read exactly where each line says something and there are few enough,
--- and what is read is what the lines say, in order.
+-- Lines are read back, with or without the last line feed; so are a number alone, which stands once, and one that is repeated. What a line
+-- says is in its ranges. A text is refused at its first wrong line, of which there is one, and a longer one at line 0. It is read exactly
+-- where each line says something and there are few enough, and what is read is what the lines say, in order.
 pub record ListsAreExact : Type 0 where
   pub lines : (lines : List (List ℕ)) → All IsLine lines → lines_of (text_of lines) ≡ lines
   pub last : (lines : List (List ℕ)) (line : List ℕ) → All IsLine lines → IsLine line → line ≢ [] → lines_of (text_of lines ++ line) ≡ lines ++ (line ∷ [])
   pub alone : (least most n : ℕ) → least ≤ n → n ≤ most → n < 2 ^ 64 → entry_of least most (decimal n) ≡ Some (n, 1)
   pub repeated : (least most n k : ℕ) → least ≤ n → n ≤ most → n < 2 ^ 64 → 1 ≤ k → k ≤ most_repeats → entry_of least most (entry_text (n, k)) ≡ Some (n, k)
   pub entry : (least most n k : ℕ) (line : List ℕ) → entry_of least most line ≡ Some (n, k) → ((line ≡ decimal n) × (k ≡ 1)) ⊎ (line ≡ entry_text (n, k))
+  pub ranges : (least most n k : ℕ) (line : List ℕ) → entry_of least most line ≡ Some (n, k) → (least ≤ n) × (n ≤ most) × (1 ≤ k) × (k ≤ most_repeats)
   pub wrong : (least most n : ℕ) (text : List ℕ) → length text ≤ list_bytes → list_of least most text ≡ Err n → IsFirstWrong least most 1 n (lines_of text)
+  pub one : (least most p q : ℕ) (lines : List (List ℕ)) → IsFirstWrong least most 1 p lines → IsFirstWrong least most 1 q lines → p ≡ q
   pub right : (least most : ℕ) (text : List ℕ) → length text ≤ list_bytes → length (lines_of text) ≤ most_lines
       → All (λ line. IsSome (entry_of least most line)) (lines_of text) → list_of least most text ≡ Ok (entries_of least most (lines_of text))
   pub read : (least most : ℕ) (text : List ℕ) (entries : List (ℕ × ℕ)) → list_of least most text ≡ Ok entries
       → (length text ≤ list_bytes) × (length (lines_of text) ≤ most_lines) × (map (λ entry. Some entry) entries ≡ map (entry_of least most) (lines_of text))
   pub long : (least most : ℕ) (text : List ℕ) → list_bytes < length text → list_of least most text ≡ Err 0
+  pub refused : (list : Result (List (ℕ × ℕ)) ℕ) (n : ℕ) → IsRefusedAs list (Line n) → list ≡ Err n
+  pub limits : (most_repeats ≡ 1000000000) × (most_lines ≡ 100000) × (list_bytes ≡ 1048576)

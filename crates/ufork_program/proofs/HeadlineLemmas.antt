@@ -1,5 +1,5 @@
 -- From how a call went to what it promises.
-use Rattle.std.proofs.Common.{◌≡◌, ◌≢◌, ℕ, List, [], Bool, true, false, None, IsOk, Contains, if◌then◌else◌, nat_eq, refl, sym, ap, ◌∙◌, subst, arith, inl, inr, ◌⊎◌}
+use Rattle.std.proofs.Common.{◌≡◌, ◌≢◌, ℕ, [], Bool, true, false, None, IsOk, Contains, refl, sym, ap, ◌∙◌, subst, arith, inl, inr, ◌⊎◌}
 use Rattle.outside_io.specs.Faults.{Rose}
 use Rattle.outside_io.specs.States.{NoneRose, SinksStill, SinkRose, CountsBelowLast}
 use Rattle.outside_io.specs.Parts.{console_of, Quiet}
@@ -7,124 +7,18 @@ use Rattle.outside_io.specs.Answers.{write_fault}
 use Rattle.outside_io.proofs.AnswerLemmas.{Still-not_Rose, SinkRose-at, SinksStill-not_SinkRose, Ends-passed, Cut-nil}
 use Rattle.outside_io.proofs.MomentLemmas.{EndsAt-answer, EndsAt-cut, CutAt-parts}
 use Rattle.command_words.specs.Commands.{read_of}
-use Rattle.ufork_program.specs.Machine.{Machine, start}
-use Rattle.ufork_program.specs.Run.{run_end}
 use Rattle.ufork_program.specs.Answer.{word_at}
-use Rattle.ufork_program.specs.Request.{course_of, HasFilesCause}
-use Rattle.ufork_program.specs.Headline.{Call, Left, WentWhole, WasCut, OfCourse, WantedMemory, HasFault, TellsOfWords, FileFailed}
-use Rattle.ufork_program.specs.Headline.{TellsOfFile, LineCut, CourseCut, Ran, TellsOfImage, TellsOfSchedule, TellsOfFrames, statuses, Promises, Went}
+use Rattle.ufork_program.specs.Request.{setup_of, course_of, NamesNoImage, NamesNoSchedule, NamesGuest, NamesTooMany, ReadsInput, HasLongInput, IsReadAt, HasFilesCause}
+use Rattle.ufork_program.specs.Headline.{Call, Left, WentWhole, WasCut, OfSources, OfCourse, WantedMemory, HasFault, TellsOfWords, FileFailed, TellsOfFile, LineCut, InputBroke}
+use Rattle.ufork_program.specs.Headline.{TellsOfInput, InputLineCut, CourseCut, Ran, TellsOfImage, TellsOfSchedule, TellsOfLength, TellsOfFrames, statuses, Promises, Went}
 use Rattle.ufork_program.specs.declared.request.Guest.{Guest}
 use Rattle.ufork_program.specs.declared.request.Request.{Request}
 use Rattle.ufork_program.specs.declared.request.Request.TheVariants.{Refused, NoMemory, Run}
-use Rattle.ufork_program.specs.declared.request.CommandRefusal.TheVariants.{Usage, CannotRead, NoImage, NoSchedule, NoFrames}
+use Rattle.ufork_program.specs.declared.request.CommandRefusal.TheVariants.{Usage, CannotRead, NoImage, NoSchedule, InputFailed, InputTooLong, NoFrames}
 use Rattle.ufork_program.proofs.CourseLemmas.{WentBy, went_by, request-told, course-told, has_room, is_usage_or_command}
-
--- how a course ends
-data Ending : Type 0 where
-  words_end : Ending
-  file_end : Ending
-  image_end : Ending
-  schedule_end : Ending
-  frames_end : Ending
-  memory_end : Ending
-  done_end : Ending
-  stopped_end : Ending
-
--- each has its status
-abbrev status_at : Ending → ℕ
-status_at words_end = 2
-status_at file_end = 3
-status_at image_end = 4
-status_at schedule_end = 5
-status_at frames_end = 12
-status_at memory_end = 10
-status_at done_end = 0
-status_at stopped_end = 8
-
--- by which it is found
-abbrev ending_at : ℕ → Ending
-ending_at n =
-    if nat_eq n 2 then words_end else if nat_eq n 3 then file_end else if nat_eq n 4 then image_end else if nat_eq n 5 then schedule_end
-    else if nat_eq n 12 then frames_end else if nat_eq n 10 then memory_end else if nat_eq n 0 then done_end else stopped_end
-
--- it is
-ending_at-status : (e : Ending) → ending_at (status_at e) ≡ e
-ending_at-status words_end = refl
-ending_at-status file_end = refl
-ending_at-status image_end = refl
-ending_at-status schedule_end = refl
-ending_at-status frames_end = refl
-ending_at-status memory_end = refl
-ending_at-status done_end = refl
-ending_at-status stopped_end = refl
-
--- so endings with one status are one
-same_ending : (a b : Ending) → status_at a ≡ status_at b → a ≡ b
-same_ending a b e = sym (ending_at-status a) ∙ ap ending_at e ∙ ending_at-status b
-
--- no ending has the status of a write fault
-not_fault_at : (e : Ending) → status_at e ≢ write_fault
-not_fault_at words_end h = omega arith
-not_fault_at file_end h = omega arith
-not_fault_at image_end h = omega arith
-not_fault_at schedule_end h = omega arith
-not_fault_at frames_end h = omega arith
-not_fault_at memory_end h = omega arith
-not_fault_at done_end h = omega arith
-not_fault_at stopped_end h = omega arith
-
--- each status is one of those that there are
-known_at : (e : Ending) → Contains statuses (status_at e)
-known_at words_end = (1, omega arith, refl)
-known_at file_end = (2, omega arith, refl)
-known_at image_end = (3, omega arith, refl)
-known_at schedule_end = (4, omega arith, refl)
-known_at frames_end = (8, omega arith, refl)
-known_at memory_end = (7, omega arith, refl)
-known_at done_end = (0, omega arith, refl)
-known_at stopped_end = (6, omega arith, refl)
-
--- the ending of a run, by whether its process is live
-abbrev run_ending : Bool → Ending
-run_ending live = if live then stopped_end else done_end
-
--- whose status is that of the run
-run_ending-status : (live : Bool) → (if live then 8 else 0) ≡ status_at (run_ending live)
-run_ending-status true = refl
-run_ending-status false = refl
-
--- a status that is neither of the two is none of a run
-run_ending-neither : (live : Bool) (status : ℕ) → status ≡ (if live then 8 else 0) → status ≢ 0 → status ≢ 8 → ⊥
-run_ending-neither true status e done stopped = stopped e
-run_ending-neither false status e done stopped = done e
-
--- the machine at the end of the run of a guest
-abbrev end_of : Guest → Machine
-end_of guest = run_end (start guest.config guest.schedule guest.bytes.items) guest.config.steps
-
--- the ending of the course of a request
-abbrev ending_of : Request → Ending
-ending_of (Refused (Usage place)) = words_end
-ending_of (Refused (CannotRead index)) = file_end
-ending_of (Refused (NoImage fault)) = image_end
-ending_of (Refused (NoSchedule line)) = schedule_end
-ending_of (Refused (NoFrames pages frames)) = frames_end
-ending_of NoMemory = memory_end
-ending_of (Run guest) = run_ending (end_of guest).live
-
--- has its status
-ending_of-status : (words : List (List ℕ)) (request : Request) → (course_of words request).status ≡ status_at (ending_of request)
-ending_of-status words (Refused (Usage place)) = refl
-ending_of-status words (Refused (CannotRead index)) = refl
-ending_of-status words (Refused (NoImage fault)) = refl
-ending_of-status words (Refused (NoSchedule line)) = refl
-ending_of-status words (Refused (NoFrames pages frames)) = refl
-ending_of-status words NoMemory = refl
-ending_of-status words (Run guest) = run_ending-status (end_of guest).live
-
--- no course has the status of a write fault
-course_of-not_fault : (words : List (List ℕ)) (request : Request) → (course_of words request).status ≢ write_fault
-course_of-not_fault words request e = not_fault_at (ending_of request) (sym (ending_of-status words request) ∙ e)
+use Rattle.ufork_program.proofs.EndingLemmas.{Ending, words_end, file_end, image_end, schedule_end, input_end, length_end, frames_end, memory_end, done_end, stopped_end}
+use Rattle.ufork_program.proofs.EndingLemmas.{status_at, same_ending, not_fault_at, known_at, run_ending, run_ending-neither, end_of, ending_of, ending_of-status, course_of-not_fault}
+use Rattle.ufork_program.proofs.CutLemmas.{files_kept_unless, unbroken_unless, guest_reads, course_cut}
 
 -- words with a fault are no command
 fault_is_none : (c : Call) (place : ℕ) → HasFault c place → IsOk (read_of c.words) → ⊥
@@ -152,19 +46,29 @@ module _ (c : Call) where
 
   -- the file that failed is one that the command reads
   failed_at : (index : ℕ) → WentBy c (Refused (CannotRead index)) → FileFailed c (word_at c.words index)
-  failed_at index by = record { rose = by.files_cause.0; index = index; word = refl; read = request-told c (Refused (CannotRead index)) by; last = by.files_cause.1 }
+  failed_at index by = record {
+    rose = by.files_cause.0;
+    index = index;
+    word = refl;
+    read = request-told c (Refused (CannotRead index)) (λ sources. IsReadAt c.words sources.files index) by by.comes.is;
+    last = by.files_cause.1;
+    unasked = by.input_cause;
+  }
+
+  -- the input that failed is one that the words ask for
+  broke : WentBy c (Refused InputFailed) → InputBroke c
+  broke by = record { read = request-told c (Refused InputFailed) (λ sources. ReadsInput c.words sources.files) by by.comes.is; took = by.input_cause }
 
   -- a guest was run whole
   ran_by : (live : Bool) (guest : Guest) → (end_of guest).live ≡ live → WentBy c (Run guest) → WentWhole c (course_of c.words (Run guest)) → Ran live c
   ran_by live guest live_is by w = record {
-    config = guest.config;
-    schedule = guest.schedule;
-    file = guest.bytes.items;
-    named = request-told c (Run guest) by;
+    setup = setup_of guest;
+    named = request-told c (Run guest) (λ sources. NamesGuest c.words sources (setup_of guest)) by by.comes.is;
     room = has_room guest by.usable;
     live_is = live_is;
     written = w.written;
     left = w.left;
+    read = by.input_cause;
   }
 
   -- what each ending tells
@@ -173,6 +77,8 @@ module _ (c : Call) where
   Tells file_end = TellsOfFile c
   Tells image_end = TellsOfImage c
   Tells schedule_end = TellsOfSchedule c
+  Tells input_end = TellsOfInput c
+  Tells length_end = TellsOfLength c
   Tells frames_end = TellsOfFrames c
   Tells memory_end = WantedMemory c
   Tells done_end = Ran false c
@@ -189,10 +95,20 @@ module _ (c : Call) where
   unfolding Tells
   tells_by (Refused (Usage place)) by w = record { place = place; fault = by.comes.is; whole = w }
   tells_by (Refused (CannotRead index)) by w = record { name = word_at c.words index; failed = failed_at index by; whole = w }
-  tells_by (Refused (NoImage fault)) by w = record { fault = fault; named = request-told c (Refused (NoImage fault)) by; whole = w }
-  tells_by (Refused (NoSchedule line)) by w = record { line = line; named = request-told c (Refused (NoSchedule line)) by; whole = w }
-  tells_by (Refused (NoFrames pages frames)) by w = record { pages = pages; frames = frames; named = request-told c (Refused (NoFrames pages frames)) by; whole = w }
-  tells_by NoMemory by w = w
+  tells_by (Refused (NoImage fault)) by w =
+      record { fault = fault; named = request-told c (Refused (NoImage fault)) (λ sources. NamesNoImage c.words sources.files fault) by by.comes.is; whole = w }
+  tells_by (Refused (NoSchedule line)) by w =
+      record { line = line; named = request-told c (Refused (NoSchedule line)) (λ sources. NamesNoSchedule c.words sources.files line) by by.comes.is; whole = w }
+  tells_by (Refused InputFailed) by w = record { broke = broke by; whole = w }
+  tells_by (Refused InputTooLong) by w = record { named = request-told c (Refused InputTooLong) (HasLongInput c.words) by by.comes.is; took = by.input_cause; whole = w }
+  tells_by (Refused (NoFrames pages frames)) by w = record {
+    pages = pages;
+    frames = frames;
+    named = request-told c (Refused (NoFrames pages frames)) (λ sources. NamesTooMany c.words sources pages frames) by by.comes.is;
+    read = by.input_cause;
+    whole = w;
+  }
+  tells_by NoMemory by w = record { whole = w; unasked = by.input_cause }
   tells_by (Run guest) by w = ran_as (end_of guest).live guest refl by w
 
   -- the ending of a call is that of its status
@@ -205,27 +121,31 @@ module _ (c : Call) where
       let w = went_whole h (λ fault. not_fault_at e (sym at ∙ fault)) in
       subst Tells (ending_is e h.request w at) (tells_by h.request (went_by c h) w)
 
-  -- all of the course was written
-  whole_by : (request : Request) → WentBy c request → WentWhole c (course_of c.words request) → OfCourse c (WentWhole c) ⊎ (WantedMemory c ⊎ TellsOfFile c)
-  whole_by (Refused (Usage place)) by w = inl (course-told c (Refused (Usage place)) (WentWhole c) tt by w)
-  whole_by (Refused (CannotRead index)) by w = inr (inr (record { name = word_at c.words index; failed = failed_at index by; whole = w }))
-  whole_by (Refused (NoImage fault)) by w = inl (course-told c (Refused (NoImage fault)) (WentWhole c) tt by w)
-  whole_by (Refused (NoSchedule line)) by w = inl (course-told c (Refused (NoSchedule line)) (WentWhole c) tt by w)
-  whole_by (Refused (NoFrames pages frames)) by w = inl (course-told c (Refused (NoFrames pages frames)) (WentWhole c) tt by w)
-  whole_by NoMemory by w = inr (inl w)
-  whole_by (Run guest) by w = inl (course-told c (Run guest) (WentWhole c) tt by w)
+  -- all of the course was written, memory was wanted, or a file or the input failed
+  abbrev IsWhole : Type 0
+  IsWhole = OfCourse c (WentWhole c) ⊎ (WantedMemory c ⊎ (TellsOfFile c ⊎ TellsOfInput c))
 
-  -- where no write failed, all of the course was written, memory was wanted, or a file failed
-  whole : Went c → c.status ≢ write_fault → OfCourse c (WentWhole c) ⊎ (WantedMemory c ⊎ TellsOfFile c)
+  -- so it is by the request
+  whole_by : (request : Request) → WentBy c request → WentWhole c (course_of c.words request) → IsWhole
+  whole_by (Refused (CannotRead index)) by w = inr (inr (inl (record { name = word_at c.words index; failed = failed_at index by; whole = w })))
+  whole_by (Refused InputFailed) by w = inr (inr (inr (record { broke = broke by; whole = w })))
+  whole_by NoMemory by w = inr (inl (record { whole = w; unasked = by.input_cause }))
+  whole_by request by w = inl (course-told c request (WentWhole c) tt by w)
+
+  -- where no write failed
+  whole : Went c → c.status ≢ write_fault → IsWhole
   whole h other = whole_by h.request (went_by c h) (went_whole h other)
 
-  -- and where no count rose, no file failed
+  -- and where no count rose, no file failed, nor did the input
   answered : Went c → NoneRose c.old c.new → OfCourse c (WentWhole c) ⊎ WantedMemory c
   answered h none = elim (whole h (not_fault h none.sinks)) [
     | inl w ↦ inl w
     | inr w ↦ elim w [
       | inl m ↦ inr m
-      | inr t ↦ absurd (Still-not_Rose c.old.files.faults c.new.files.faults none.files t.failed.rose)
+      | inr f ↦ elim f [
+        | inl t ↦ absurd (Still-not_Rose c.old.files.faults c.new.files.faults none.files t.failed.rose)
+        | inr t ↦ absurd (Still-not_Rose c.old.input.faults c.new.input.faults none.input t.broke.took.rose)
+      ]
     ]
   ]
 
@@ -237,29 +157,30 @@ module _ (c : Call) where
   ]
 
   -- a part of the course was cut
-  cut_by : (request : Request) → WentBy c request → WasCut c (course_of c.words request) → CourseCut c ⊎ LineCut c
-  cut_by (Refused (Usage place)) by w = inl (record { kept = ap (λ files. files.faults) by.files_cause; cut = course-told c (Refused (Usage place)) (WasCut c) tt by w })
-  cut_by (Refused (CannotRead index)) by w = inr (record { name = word_at c.words index; failed = failed_at index by; cut = w })
-  cut_by (Refused (NoImage fault)) by w = inl (record { kept = by.files_cause; cut = course-told c (Refused (NoImage fault)) (WasCut c) tt by w })
-  cut_by (Refused (NoSchedule line)) by w = inl (record { kept = by.files_cause; cut = course-told c (Refused (NoSchedule line)) (WasCut c) tt by w })
-  cut_by (Refused (NoFrames pages frames)) by w = inl (record { kept = by.files_cause; cut = course-told c (Refused (NoFrames pages frames)) (WasCut c) tt by w })
+  cut_by : (request : Request) → WentBy c request → WasCut c (course_of c.words request) → CourseCut c ⊎ (LineCut c ⊎ InputLineCut c)
+  cut_by (Refused (CannotRead index)) by w = inr (inl (record { name = word_at c.words index; failed = failed_at index by; cut = w }))
+  cut_by (Refused InputFailed) by w = inr (inr (record { broke = broke by; cut = w }))
   cut_by NoMemory by w = absurd (Cut-nil (CutAt-parts [] (Left c) (console_of c.old) (console_of c.new) w))
-  cut_by (Run guest) by w = inl (record { kept = by.files_cause; cut = course-told c (Run guest) (WasCut c) tt by w })
+  cut_by request by w = inl (course_cut c request tt by w)
 
   -- where a write failed, a part was cut
-  cut_short : Went c → c.status ≡ write_fault → CourseCut c ⊎ LineCut c
+  cut_short : Went c → c.status ≡ write_fault → CourseCut c ⊎ (LineCut c ⊎ InputLineCut c)
   cut_short h e = cut_by h.request (went_by c h) (was_cut h e)
 
   -- words that are no command are refused
   no_command_by : (request : Request) → WentBy c request → (place : ℕ) → HasFault c place → (found : ℕ) × (request ≡ Refused (Usage found))
-  no_command_by request by place fault = elim (is_usage_or_command c.words by.comes.files request by.comes.is) [
+  no_command_by request by place fault = elim (is_usage_or_command c.words by.comes.sources request by.comes.is) [
     | inl u ↦ u
     | inr ok ↦ absurd (fault_is_none c place fault ok)
   ]
 
-  -- by 2, where no write failed
+  -- a request is answered by its status, where no write failed
+  status_by : (h : Went c) (request : Request) → h.request ≡ request → c.status ≢ write_fault → c.status ≡ (course_of c.words request).status
+  status_by h request is other = (went_whole h other).status ∙ ap (λ q. (course_of c.words q).status) is
+
+  -- so words that are no command are answered by 2
   no_command : Went c → (place : ℕ) → HasFault c place → c.status ≢ write_fault → c.status ≡ 2
-  no_command h place fault other = (went_whole h other).status ∙ ap (λ q. (course_of c.words q).status) (no_command_by h.request (went_by c h) place fault).1
+  no_command h place fault other = let found = no_command_by h.request (went_by c h) place fault in status_by h (Refused (Usage found.0)) found.1 other
 
   -- and no file is asked for
   unasked : Went c → (place : ℕ) → HasFault c place → c.new.files ≡ c.old.files
@@ -269,19 +190,47 @@ module _ (c : Call) where
   sink_passed : Went c → CountsBelowLast c.old → SinkRose c.old c.new → c.status ≡ write_fault
   sink_passed h below rose = Ends-passed _ c.old c.new c.status (EndsAt-answer _ (Left c) (console_of c.old) (console_of c.new) c.status h.ends) below rose
 
-  -- where the count of files rose, it is that of a file that failed
-  file_passed_by : (request : Request) → WentBy c request → WentWhole c (course_of c.words request) → CountsBelowLast c.old → Rose c.old.files.faults c.new.files.faults → c.status ≡ 3
-  file_passed_by (Refused (Usage place)) by w below rose = let kept = ap (λ files. files.faults) by.files_cause in absurd (omega (arith, below.files))
-  file_passed_by (Refused (CannotRead index)) by w below rose = w.status
-  file_passed_by (Refused (NoImage fault)) by w below rose = absurd (omega (arith, below.files, by.files_cause))
-  file_passed_by (Refused (NoSchedule line)) by w below rose = absurd (omega (arith, below.files, by.files_cause))
-  file_passed_by (Refused (NoFrames pages frames)) by w below rose = absurd (omega (arith, below.files, by.files_cause))
-  file_passed_by NoMemory by w below rose = absurd (omega (arith, below.files, by.files_cause))
-  file_passed_by (Run guest) by w below rose = absurd (omega (arith, below.files, by.files_cause))
+  -- the files are as they were, or one failed and the status is that of a file
+  files_kept_or : Went c → c.status ≢ write_fault → (c.new.files ≡ c.old.files) ⊎ (c.status ≡ 3)
+  files_kept_or h other = elim (files_kept_unless c.words c.old.files c.new.files h.request h.files_cause) [
+    | inl kept ↦ inl kept
+    | inr found ↦ inr (status_by h (Refused (CannotRead found.0)) found.1 other)
+  ]
 
-  -- so it is at the end of the call, where no sink failed
+  -- so they are where it is another
+  files_kept : Went c → c.status ≢ write_fault → c.status ≢ 3 → c.new.files ≡ c.old.files
+  files_kept h other others = elim (files_kept_or h other) [ inl kept ↦ kept | inr is ↦ absurd (others is) ]
+
+  -- and it is where their count rose, and no sink failed
   file_passed : Went c → CountsBelowLast c.old → SinksStill c.old c.new → Rose c.old.files.faults c.new.files.faults → c.status ≡ 3
-  file_passed h below still rose = file_passed_by h.request (went_by c h) (went_whole h (not_fault h still)) below rose
+  file_passed h below still rose = elim (files_kept_or h (not_fault h still)) [
+    | inl kept ↦ let same = ap (λ files. files.faults) kept in absurd (omega (arith, below.files))
+    | inr is ↦ is
+  ]
+
+  -- where the count of the input rose, it is that of the input
+  input_passed : Went c → CountsBelowLast c.old → SinksStill c.old c.new → Rose c.old.input.faults c.new.input.faults → c.status ≡ 6
+  input_passed h below still rose = elim (unbroken_unless c.old.input c.new.input h.request h.input_cause) [
+    | inl kept ↦ absurd (omega (arith, below.input))
+    | inr found ↦ status_by h (Refused InputFailed) found (not_fault h still)
+  ]
+
+  -- the input is as it was, unless it is read
+  abbrev IsKept : Type 0
+  IsKept = (c.new.input ≡ c.old.input) ⊎ OfSources c (λ sources. ReadsInput c.words sources.files)
+
+  -- it is read by the sources of the request
+  read_by : (request : Request) (by : WentBy c request) → ReadsInput c.words by.comes.sources.files → IsKept
+  read_by request by reads = inr (request-told c request (λ sources. ReadsInput c.words sources.files) by reads)
+
+  -- so it is for each request
+  input_kept_by : (request : Request) → WentBy c request → IsKept
+  input_kept_by (Refused InputFailed) by = read_by (Refused InputFailed) by by.comes.is
+  input_kept_by (Refused InputTooLong) by = read_by (Refused InputTooLong) by by.comes.is.reads
+  input_kept_by (Refused (NoFrames pages frames)) by =
+      read_by (Refused (NoFrames pages frames)) by (guest_reads c.words by.comes.sources by.comes.is.setup by.comes.is.names)
+  input_kept_by (Run guest) by = read_by (Run guest) by (guest_reads c.words by.comes.sources (setup_of guest) by.comes.is)
+  input_kept_by request by = inl by.input_cause
 
   -- where nothing was run, the board is left as it was
   not_run_by : (request : Request) → WentWhole c (course_of c.words request) → c.status ≢ 0 → c.status ≢ 8 → Left c None
@@ -297,7 +246,7 @@ module _ (c : Call) where
   known : Went c → Contains statuses c.status
   known h = elim h.ends.ended [
     | inl w ↦ subst (Contains statuses) (sym (w.whole.status_is ∙ ending_of-status c.words h.request)) (known_at (ending_of h.request))
-    | inr w ↦ subst (Contains statuses) (sym w.status_is) (5, omega arith, refl)
+    | inr w ↦ subst (Contains statuses) (sym w.status_is) (6, omega arith, refl)
   ]
 
   -- all that is promised
@@ -315,15 +264,19 @@ module _ (c : Call) where
     file_failed = tells file_end h;
     image_refused = tells image_end h;
     schedule_refused = tells schedule_end h;
+    input_failed = tells input_end h;
+    input_too_long = tells length_end h;
     frames_lacked = tells frames_end h;
     sink_failed = sink_failed h;
     sink_passed = sink_passed h;
     file_passed = file_passed h;
+    input_passed = input_passed h;
     memory_wanted = tells memory_end h;
     not_run = not_run h;
     known = known h;
     later = h.ends.later;
     unasked = unasked h;
     contents = h.contents_kept;
-    input = h.input_kept;
+    files_kept = files_kept h;
+    input_kept = input_kept_by h.request (went_by c h);
   }

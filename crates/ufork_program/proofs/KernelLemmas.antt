@@ -114,7 +114,7 @@ some-not b false e = rw e refl
 module _ {S : Type 0} (stands_for : S → Content → Type 0) (k : Kernel S) (registers : List Cap) (pcc : Cap) (writing : Option ℕ) (space : S) (piece : List ℕ) (ended : Option ℕ) (live : Bool)
     (marked : is_some ended ≡ not live) where
   abbrev after-step : Kernel S
-  after-step = record { config = k.config; schedule = k.schedule; regs = registers; pcc = pcc; space = space; writing = writing; live = live; steps = k.steps + 1; piece = piece }
+  after-step = record { config = k.config; schedule = k.schedule; input = k.input; regs = registers; pcc = pcc; space = space; writing = writing; live = live; steps = k.steps + 1; piece = piece }
 
   step-is : (c : Content) → HasWorked (worked (state k.regs k.pcc c) k.writing) ended registers pcc writing piece (stands_for space)
       → KernelStands stands_for after-step (step_of (machine_of k c)).after

@@ -1,5 +1,9 @@
 pub mod Digits
+pub mod InputLemmas
 pub mod RequestLemmas
+pub mod SourceLemmas
+pub mod EndingLemmas
+pub mod CutLemmas
 pub mod HeadlineLemmas
 pub mod CallLemmas
 pub mod SoundSteps

@@ -1,22 +1,18 @@
--- What a file leads to that is longer than its limit, and what request comes of the files that were read.
-use Rattle.std.proofs.Common.{◌≡◌, ℕ, suc, ◌<◌, List, length, replicate, Some, None, IfSome, IsSomeAnd, Ok, Err, nat_eq, if◌then◌else◌, arith, refl, sym, subst, inl, inr}
+-- What a file leads to that is longer than its limit, and what comes of the files that were read.
+use Rattle.std.proofs.Common.{◌≡◌, ℕ, suc, ◌<◌, List, length, replicate, Some, None, IfSome, IsSomeAnd, Result, Ok, Err, nat_eq, if◌then◌else◌, arith, refl, sym, subst, inl, inr}
 use Rattle.std.proofs.lemmas.List.{length-replicate}
 use Rattle.std.specs.declared.option.Option.{Option}
 use Rattle.cap_format.specs.Image.{IsImage, fault_of}
 use Rattle.cap_format.specs.Numbers.{image_bytes}
 use Rattle.cap_format.specs.declared.image.ImageFault.{ImageFault}
-use Rattle.elf_loader.specs.Loaded.{image_of}
 use Rattle.command_words.specs.declared.words.Options.{Options}
-use Rattle.command_words.specs.Commands.{read_of}
 use Rattle.machine_types.specs.Numbers.{list_bytes, most_quantum}
 use Rattle.machine_types.proofs.LinesRead.{long-text}
 use Rattle.ufork_program.specs.Answer.{Files, named_by}
-use Rattle.ufork_program.specs.Request.{IsRequestOf, ComesOf, NamesFile, NamesImage, NamesGuest, IsScheduleAt, HasSchedule}
-use Rattle.ufork_program.specs.Reading.{Told, IsCommand, IsToldAt, IsNoImageAt, IsScheduleTextAt, IsImageAt, IsScheduleFileAt, IsOptionRead, stopped}
-use Rattle.ufork_program.specs.declared.request.Guest.{Guest}
-use Rattle.ufork_program.specs.declared.request.Request.{Request}
-use Rattle.ufork_program.specs.declared.request.Request.TheVariants as request
-use Rattle.ufork_program.specs.declared.request.CommandRefusal.TheVariants.{Usage, CannotRead, NoImage, NoSchedule, NoFrames}
+use Rattle.ufork_program.specs.Request.{NamesFile, NamesImage, IsScheduleAt, HasSchedule}
+use Rattle.ufork_program.specs.Reading.{Told, IsCommand, IsToldAt, IsNoImageAt, IsScheduleTextAt, IsImageAt, IsScheduleFileAt, IsOptionRead, AreFilesOf, ComesOfFiles}
+use Rattle.ufork_program.specs.declared.request.NamedFiles.{NamedFiles}
+use Rattle.ufork_program.specs.declared.request.CommandRefusal.TheVariants.{Usage, CannotRead, NoImage, NoSchedule, InputFailed, InputTooLong, NoFrames}
 use Rattle.ufork_program.specs.declared.request.Stop.{Stop}
 use Rattle.ufork_program.specs.declared.request.Stop.TheVariants.{Refused, NoMemory}
 
@@ -58,12 +54,12 @@ long_text words told index tells =
     record { text = long.content; told_is = long.told_is; is = long-text 1 most_quantum long.content long.longer }
 
 -- the contents that are told, and these where none are
-files_of : List (List ℕ) → Told → Files → Files
+pub files_of : List (List ℕ) → Told → Files → Files
 files_of words None others = others
 files_of words (Some contents) others = named_by words contents
 
 -- they are told
-files_of-told : (words : List (List ℕ)) (told : Told) (others : Files) → IfSome told (λ contents. files_of words told others ≡ named_by words contents)
+pub files_of-told : (words : List (List ℕ)) (told : Told) (others : Files) → IfSome told (λ contents. files_of words told others ≡ named_by words contents)
 unfolding files_of
 files_of-told words None others = tt
 files_of-told words (Some contents) others = refl
@@ -90,22 +86,18 @@ unfolding one_of
 one_of-other image file other index below = grind (arith, below)
 
 module _ (words : List (List ℕ)) (told : Told) where
-  -- a request comes of these contents
-  came_of : (others : Files) (asked : Request) → IsRequestOf words (files_of words told others) asked → ComesOf words told asked
-  came_of others asked is = record { files = files_of words told others; told_is = files_of-told words told others; is = is }
-
-  -- words that are no command
-  pub usage_comes : (place : ℕ) → read_of words ≡ Err (record { place = place }) → ComesOf words told (request.Refused (Usage place))
-  usage_comes place is = came_of (λ _. None) (request.Refused (Usage place)) is
+  -- what was read comes of these contents
+  came_of : (others : Files) (result : Result NamedFiles Stop) → AreFilesOf words (files_of words told others) result → ComesOfFiles words told result
+  came_of others result is = record { files = files_of words told others; told_is = files_of-told words told others; is = is }
 
   module _ (options : Options) (image : ℕ) (is : IsCommand words options image) where
     -- memory was wanted
-    no_memory_comes : ComesOf words told request.NoMemory
-    no_memory_comes = came_of (λ _. None) request.NoMemory (rw is.is refl)
+    no_memory_comes : ComesOfFiles words told (Err NoMemory)
+    no_memory_comes = came_of (λ _. None) (Err NoMemory) (rw is.is refl)
 
     -- the image's file failed
-    no_file_comes : ComesOf words told (request.Refused (CannotRead image))
-    no_file_comes = came_of (λ _. None) (request.Refused (CannotRead image)) (record { options = options; image = image; command = is.is; which = inl refl })
+    no_file_comes : ComesOfFiles words told (Err (Refused (CannotRead image)))
+    no_file_comes = came_of (λ _. None) (Err (Refused (CannotRead image))) (record { options = options; image = image; command = is.is; which = inl refl })
 
     -- the image's file has the one content
     has_one : (file : List ℕ) (other : Option (List ℕ)) → IsToldAt words told image file → files_of words told (one_of image file other) image ≡ Some file
@@ -116,20 +108,22 @@ module _ (words : List (List ℕ)) (told : Told) where
     names_one file other at = record { image = image; command = is.is; content = has_one file other at }
 
     -- it is no image
-    no_image_comes : (fault : ImageFault) → IsNoImageAt words told image fault → ComesOf words told (request.Refused (NoImage fault))
-    no_image_comes fault wrong = came_of (one_of image wrong.file None) (request.Refused (NoImage fault)) (record {
+    no_image_comes : (fault : ImageFault) → IsNoImageAt words told image fault → ComesOfFiles words told (Err (Refused (NoImage fault)))
+    no_image_comes fault wrong = came_of (one_of image wrong.file None) (Err (Refused (NoImage fault))) (record {
       options = options;
       file = wrong.file;
       names = names_one wrong.file None wrong.told_is;
       fault_is = wrong.fault_is;
     })
 
-    -- so an image that was not read leads to a request
-    pub image_stop_comes : (stop : Stop) → IsImageAt words told image (Err stop) → ComesOf words told (stopped stop)
+    -- so an image that was not read comes of some contents
+    pub image_stop_comes : (stop : Stop) → IsImageAt words told image (Err stop) → ComesOfFiles words told (Err stop)
     image_stop_comes (Refused (Usage place)) h = absurd h
     image_stop_comes (Refused (CannotRead failed)) h = rw h no_file_comes
     image_stop_comes (Refused (NoImage fault)) h = no_image_comes fault h
     image_stop_comes (Refused (NoSchedule line)) h = absurd h
+    image_stop_comes (Refused InputFailed) h = absurd h
+    image_stop_comes (Refused InputTooLong) h = absurd h
     image_stop_comes (Refused (NoFrames pages frames)) h = absurd h
     image_stop_comes NoMemory h = no_memory_comes
 
@@ -151,9 +145,9 @@ module _ (words : List (List ℕ)) (told : Told) where
           files_of-at words told (one_of image file (Some text)) index text told_is (one_of-other image file (Some text) index (rw named at below))
 
       -- the schedule's file failed
-      no_text_comes : (index : ℕ) → options.schedule ≡ Some index → ComesOf words told (request.Refused (CannotRead index))
+      no_text_comes : (index : ℕ) → options.schedule ≡ Some index → ComesOfFiles words told (Err (Refused (CannotRead index)))
       unfolding with_text
-      no_text_comes index named = came_of (one_of image file None) (request.Refused (CannotRead index)) (record {
+      no_text_comes index named = came_of (one_of image file None) (Err (Refused (CannotRead index))) (record {
         options = options;
         image = image;
         command = is.is;
@@ -161,9 +155,9 @@ module _ (words : List (List ℕ)) (told : Told) where
       })
 
       -- its text is no schedule
-      no_schedule_comes : (index line : ℕ) → options.schedule ≡ Some index → IsScheduleTextAt words told index (Err line) → ComesOf words told (request.Refused (NoSchedule line))
+      no_schedule_comes : (index line : ℕ) → options.schedule ≡ Some index → IsScheduleTextAt words told index (Err line) → ComesOfFiles words told (Err (Refused (NoSchedule line)))
       unfolding with_text
-      no_schedule_comes index line named wrong = came_of (one_of image file (Some wrong.text)) (request.Refused (NoSchedule line)) (record {
+      no_schedule_comes index line named wrong = came_of (one_of image file (Some wrong.text)) (Err (Refused (NoSchedule line))) (record {
         text = wrong.text;
         names = record {
           options = options;
@@ -176,22 +170,24 @@ module _ (words : List (List ℕ)) (told : Told) where
         wrong = wrong.is;
       })
 
-      -- so a schedule's file that was not read leads to a request
-      schedule_stop_comes : (index : ℕ) → options.schedule ≡ Some index → (stop : Stop) → IsScheduleFileAt words told index (Err stop) → ComesOf words told (stopped stop)
+      -- so does a schedule's file that was not read
+      schedule_stop_comes : (index : ℕ) → options.schedule ≡ Some index → (stop : Stop) → IsScheduleFileAt words told index (Err stop) → ComesOfFiles words told (Err stop)
       schedule_stop_comes index named (Refused (Usage place)) h = absurd h
       schedule_stop_comes index named (Refused (CannotRead failed)) h = rw h (no_text_comes index named)
       schedule_stop_comes index named (Refused (NoImage fault)) h = absurd h
       schedule_stop_comes index named (Refused (NoSchedule line)) h = no_schedule_comes index line named h
+      schedule_stop_comes index named (Refused InputFailed) h = absurd h
+      schedule_stop_comes index named (Refused InputTooLong) h = absurd h
       schedule_stop_comes index named (Refused (NoFrames pages frames)) h = absurd h
       schedule_stop_comes index named NoMemory h = no_memory_comes
 
-      -- and so does the option
-      option_stop_at : (option : Option ℕ) → options.schedule ≡ option → (stop : Stop) → IsOptionRead words told option (Err stop) → ComesOf words told (stopped stop)
+      -- and what an option names
+      option_stop_at : (option : Option ℕ) → options.schedule ≡ option → (stop : Stop) → IsOptionRead words told option (Err stop) → ComesOfFiles words told (Err stop)
       option_stop_at None named stop h = absurd h
       option_stop_at (Some index) named stop h = schedule_stop_comes index named stop h
 
       -- the one that the command has
-      pub option_stop_comes : (stop : Stop) → IsOptionRead words told options.schedule (Err stop) → ComesOf words told (stopped stop)
+      pub option_stop_comes : (stop : Stop) → IsOptionRead words told options.schedule (Err stop) → ComesOfFiles words told (Err stop)
       option_stop_comes stop h = option_stop_at options.schedule refl stop h
 
       -- contents by which an option says this schedule
@@ -207,28 +203,15 @@ module _ (words : List (List ℕ)) (told : Told) where
         said = subst (λ (found : Option (List ℕ)). HasSchedule found schedule) (sym (with_text-at index h.text named h.told_is)) h.is;
       }
 
-      -- the words name this guest by some contents
-      guest_comes : (schedule : List (ℕ × ℕ)) (asked : Request) → IsOptionRead words told options.schedule (Ok schedule)
-          → ((files : Files) → NamesGuest words files options.config schedule file → IsRequestOf words files asked) → ComesOf words told asked
+      -- the words name what was read, by some contents
+      pub named_comes : (named : NamedFiles) → named.config ≡ options.config → named.bytes.items ≡ file → IsOptionRead words told options.schedule (Ok named.schedule)
+          → ComesOfFiles words told (Ok named)
       unfolding with_text
-      guest_comes schedule asked h leads =
-          let said = said_at options.schedule refl schedule h in
-          came_of (one_of image file said.text) asked (leads (with_text said.text) (record { options = options; names = names_image said.text; config_is = refl; schedule_is = said.said }))
-
-      -- it is run
-      pub run_comes : (guest : Guest) → guest.config ≡ options.config → guest.bytes.items ≡ file → IsOptionRead words told options.schedule (Ok guest.schedule)
-          → ComesOf words told (request.Run guest)
-      run_comes guest config_is bytes_is h = guest_comes guest.schedule (request.Run guest) h (λ files names. rw (config_is, bytes_is) names)
-
-      -- or there are too few frames
-      pub too_many_come : (schedule : List (ℕ × ℕ)) (pages frames : ℕ) → (image_of file).pages ≡ pages → options.config.frames ≡ frames → frames < pages
-          → IsOptionRead words told options.schedule (Ok schedule) → ComesOf words told (request.Refused (NoFrames pages frames))
-      too_many_come schedule pages frames pages_are frames_are fewer h = guest_comes schedule (request.Refused (NoFrames pages frames)) h (λ files names. record {
-        config = options.config;
-        schedule = schedule;
-        file = file;
-        names = names;
-        pages_are = pages_are;
-        frames_are = frames_are;
-        fewer = fewer;
-      })
+      named_comes named config_is bytes_is h =
+          let said = said_at options.schedule refl named.schedule h in
+          came_of (one_of image file said.text) (Ok named) (rw (config_is, bytes_is) (record {
+            options = options;
+            names = names_image said.text;
+            config_is = refl;
+            schedule_is = said.said;
+          }))

@@ -1,5 +1,5 @@
--- What the program does, by its words and the contents of files: what it answers, and the machine that stands meanwhile.
-use Rattle.std.specs.Prelude.{ℕ, List, [], nat_lt, if◌then◌else◌, Some, None, Result, Ok, Err, slice_index_or}
+-- What the program does, by its words, the contents of files and the console's input: what it answers, and the machine that stands meanwhile.
+use Rattle.std.specs.Prelude.{ℕ, List, [], nat_lt, if◌then◌else◌, Some, None, Result, Ok, Err, length, slice_index_or}
 use Rattle.std.specs.declared.option.Option.{Option}
 use Rattle.outside_io.specs.Answers.{Answer, refusal}
 use Rattle.outside_io.specs.Moments.{Course, steady}
@@ -13,8 +13,9 @@ use Rattle.command_words.specs.declared.words.Command.TheVariants.{Run}
 use Rattle.command_words.specs.declared.words.WordFault.{WordFault}
 use Rattle.command_words.specs.Commands.{read_of}
 use Rattle.run_texts.specs.Schedules.{schedule_of}
-use Rattle.ufork_program.specs.Lines.{usage_line, cannot_read_line, image_refused_line, schedule_refused_line, frames_lacked_line}
-use Rattle.ufork_program.specs.Machine.{Machine}
+use Rattle.ufork_program.specs.Numbers.{most_input}
+use Rattle.ufork_program.specs.Lines.{usage_line, cannot_read_line, image_refused_line, schedule_refused_line, input_failed_line, input_too_long_line, frames_lacked_line}
+use Rattle.ufork_program.specs.Machine.{Machine, Setup}
 use Rattle.ufork_program.specs.Run.{run_course}
 
 -- the word at an index
@@ -27,6 +28,11 @@ Files = ℕ → Option (List ℕ)
 
 abbrev pub named_by : List (List ℕ) → (List ℕ → Option (List ℕ)) → Files
 named_by words contents index = contents (word_at words index)
+
+-- what the program reads: those contents, and the bytes that the console's input has left
+pub record Sources : Type 0 where
+  pub files : Files
+  pub input : List ℕ
 
 -- the refusals, with their statuses
 abbrev pub usage : ℕ → Answer
@@ -41,6 +47,12 @@ image_refused fault = refusal 4 (image_refused_line fault)
 abbrev pub schedule_refused : ℕ → Answer
 schedule_refused line = refusal 5 (schedule_refused_line line)
 
+abbrev pub input_failed : Answer
+input_failed = refusal 6 input_failed_line
+
+abbrev pub input_too_long : Answer
+input_too_long = refusal 11 input_too_long_line
+
 abbrev pub frames_lacked : ℕ → ℕ → Answer
 frames_lacked pages frames = refusal 12 (frames_lacked_line pages frames)
 
@@ -49,40 +61,44 @@ abbrev pub refused : Answer → Course (Option Machine)
 refused = steady None
 
 -- The courses of a command, in the order in which its parts are read. Last the frames are counted: there has to be one for each page.
-abbrev pub frames_course : Config → List (ℕ × ℕ) → List ℕ → Course (Option Machine)
-frames_course config schedule file =
-    if nat_lt config.frames (image_of file).pages then refused (frames_lacked (image_of file).pages config.frames) else run_course config schedule file
+abbrev pub frames_course : Setup → Course (Option Machine)
+frames_course setup =
+    if nat_lt setup.config.frames (image_of setup.file).pages then refused (frames_lacked (image_of setup.file).pages setup.config.frames) else run_course setup
+
+-- the console's input, and how long it is
+abbrev pub input_course : Setup → Course (Option Machine)
+input_course setup = if nat_lt most_input (length setup.input) then refused input_too_long else frames_course setup
 
 -- the schedule's text
-abbrev pub text_course : Config → List ℕ → Result (List (ℕ × ℕ)) ℕ → Course (Option Machine)
-text_course config file (Ok schedule) = frames_course config schedule file
-text_course config file (Err line) = refused (schedule_refused line)
+abbrev pub text_course : Sources → Config → List ℕ → Result (List (ℕ × ℕ)) ℕ → Course (Option Machine)
+text_course sources config file (Ok schedule) = input_course (record { config = config; schedule = schedule; file = file; input = sources.input })
+text_course sources config file (Err line) = refused (schedule_refused line)
 
 -- the schedule's file
-abbrev pub schedule_course : Config → List ℕ → List ℕ → Option (List ℕ) → Course (Option Machine)
-schedule_course config file name None = refused (cannot_read name)
-schedule_course config file name (Some text) = text_course config file (schedule_of text)
+abbrev pub schedule_course : Sources → Config → List ℕ → List ℕ → Option (List ℕ) → Course (Option Machine)
+schedule_course sources config file name None = refused (cannot_read name)
+schedule_course sources config file name (Some text) = text_course sources config file (schedule_of text)
 
 -- the schedule is empty where no option names it
-abbrev pub option_course : List (List ℕ) → Files → Config → List ℕ → Option ℕ → Course (Option Machine)
-option_course words files config file None = frames_course config [] file
-option_course words files config file (Some index) = schedule_course config file (word_at words index) (files index)
+abbrev pub option_course : List (List ℕ) → Sources → Config → List ℕ → Option ℕ → Course (Option Machine)
+option_course words sources config file None = text_course sources config file (Ok [])
+option_course words sources config file (Some index) = schedule_course sources config file (word_at words index) (sources.files index)
 
 -- the image, which every other file is none of, by the first rule that it breaks
-abbrev pub image_course : List (List ℕ) → Files → Options → List ℕ → Option ImageFault → Course (Option Machine)
-image_course words files options file None = option_course words files options.config file options.schedule
-image_course words files options file (Some fault) = refused (image_refused fault)
+abbrev pub image_course : List (List ℕ) → Sources → Options → List ℕ → Option ImageFault → Course (Option Machine)
+image_course words sources options file None = option_course words sources options.config file options.schedule
+image_course words sources options file (Some fault) = refused (image_refused fault)
 
 -- the image's file
-abbrev pub file_course : List (List ℕ) → Files → Options → List ℕ → Option (List ℕ) → Course (Option Machine)
-file_course words files options name None = refused (cannot_read name)
-file_course words files options name (Some file) = image_course words files options file (fault_of file)
+abbrev pub file_course : List (List ℕ) → Sources → Options → List ℕ → Option (List ℕ) → Course (Option Machine)
+file_course words sources options name None = refused (cannot_read name)
+file_course words sources options name (Some file) = image_course words sources options file (fault_of file)
 
 -- the words
-abbrev pub command_course : List (List ℕ) → Files → Result Command WordFault → Course (Option Machine)
-command_course words files (Err fault) = refused (usage fault.place)
-command_course words files (Ok (Run options image)) = file_course words files options (word_at words image) (files image)
+abbrev pub command_course : List (List ℕ) → Sources → Result Command WordFault → Course (Option Machine)
+command_course words sources (Err fault) = refused (usage fault.place)
+command_course words sources (Ok (Run options image)) = file_course words sources options (word_at words image) (sources.files image)
 
--- the course of the program for these words, where the files that they name have these contents
-abbrev pub course : List (List ℕ) → Files → Course (Option Machine)
-course words files = command_course words files (read_of words)
+-- the course of the program for these words, where what it reads is this
+abbrev pub course : List (List ℕ) → Sources → Course (Option Machine)
+course words sources = command_course words sources (read_of words)

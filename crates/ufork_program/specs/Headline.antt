@@ -1,5 +1,5 @@
 -- What a call of the program promises.
-use Rattle.std.specs.Prelude.{◌≡◌, ◌≢◌, ◌≤◌, ℕ, ◌⊎◌, Bool, true, false, List, [], ◌∷◌, Contains, Some, None, Err, IfSome}
+use Rattle.std.specs.Prelude.{◌≡◌, ◌≢◌, ◌≤◌, ℕ, ◌⊎◌, Bool, true, false, List, [], ◌∷◌, Contains, Some, None, Err}
 use Rattle.std.specs.declared.option.Option.{Option}
 use Rattle.outside_io.specs.Faults.{Rose}
 use Rattle.outside_io.specs.States.{Outside, NoneRose, SinksStill, SinkRose, CountsBelowLast}
@@ -8,14 +8,14 @@ use Rattle.outside_io.specs.Answers.{memory_wanted, write_fault}
 use Rattle.outside_io.specs.Moments.{Course, parts_of, CutAt, EndsAt}
 use Rattle.stores.specs.declared.board.Board.{Board}
 use Rattle.stores.specs.Boards.{IsEmpty, Stands}
-use Rattle.machine_types.specs.declared.config.Config.{Config}
 use Rattle.cap_format.specs.declared.image.ImageFault.{ImageFault}
 use Rattle.elf_loader.specs.Loaded.{image_of}
 use Rattle.command_words.specs.Commands.{read_of}
-use Rattle.ufork_program.specs.Machine.{Machine, start}
+use Rattle.ufork_program.specs.Machine.{Machine, Setup, start}
 use Rattle.ufork_program.specs.Run.{run_course, run_end}
-use Rattle.ufork_program.specs.Answer.{word_at, Files, named_by, course, usage, cannot_read, image_refused, schedule_refused, frames_lacked, refused}
-use Rattle.ufork_program.specs.Request.{course_of, NamesNoImage, NamesNoSchedule, NamesGuest, NamesTooMany, IsReadAt, IsUsable, ComesOf, HasFilesCause}
+use Rattle.ufork_program.specs.Input.{TookAll, TookTooMany, TookUntilFault}
+use Rattle.ufork_program.specs.Answer.{word_at, Sources, course, usage, cannot_read, image_refused, schedule_refused, input_failed, input_too_long, frames_lacked, refused}
+use Rattle.ufork_program.specs.Request.{course_of, NamesNoImage, NamesNoSchedule, NamesGuest, NamesTooMany, ReadsInput, HasLongInput, IsReadAt, IsUsable, AreTold, ComesOf, HasFilesCause, TookSome, HasInputCause}
 use Rattle.ufork_program.specs.declared.request.Request.{Request}
 
 -- A call of the program: its words, what stood outside before and after it, the board that it was handed and the one that it
@@ -55,19 +55,21 @@ pub record WentWhole (call : Call) (c : Course (Option Machine)) : Type 0 where
 abbrev pub WasCut : Call → Course (Option Machine) → Type 0
 WasCut call c = CutAt c.moments (Left call) (console_of call.old) (console_of call.new)
 
--- A fact of the contents of the files that the words name: of those that are told, and of some where none are.
-pub record OfContents (call : Call) (P : Files → Type 0) : Type 0 where
-  pub files : Files
-  pub told : IfSome call.old.files.contents (λ contents. files ≡ named_by call.words contents)
-  pub holds : P files
+-- A fact of what the program reads, which are the contents of the files that the words name and the bytes of the input: of those that are
+-- told, and of some where none are.
+pub record OfSources (call : Call) (P : Sources → Type 0) : Type 0 where
+  pub sources : Sources
+  pub told : AreTold call.words call.old.files.contents call.old.input.left sources
+  pub holds : P sources
 
--- a fact of the course for the words and these contents
+-- a fact of the course for the words and these sources
 abbrev pub OfCourse : Call → (Course (Option Machine) → Type 0) → Type 0
-OfCourse call P = OfContents call (λ files. P (course call.words files))
+OfCourse call P = OfSources call (λ sources. P (course call.words sources))
 
--- memory was wanted, and nothing was written or run
-abbrev pub WantedMemory : Call → Type 0
-WantedMemory call = WentWhole call (refused memory_wanted)
+-- memory was wanted, nothing was written or run, and the input was not asked for
+pub record WantedMemory (call : Call) : Type 0 where
+  pub whole : WentWhole call (refused memory_wanted)
+  pub unasked : call.new.input ≡ call.old.input
 
 -- the words are no command, from this place on
 abbrev pub HasFault : Call → ℕ → Type 0
@@ -80,13 +82,14 @@ pub record TellsOfWords (call : Call) : Type 0 where
   pub whole : WentWhole call (refused (usage place))
 
 -- The count of files rose, and the name that failed last is that of a file that the command reads: of its image, or of its schedule,
--- where the image is one.
+-- where the image is one. The input was not asked for.
 pub record FileFailed (call : Call) (name : List ℕ) : Type 0 where
   pub rose : Rose call.old.files.faults call.new.files.faults
   pub index : ℕ
   pub word : word_at call.words index ≡ name
-  pub read : OfContents call (λ files. IsReadAt call.words files index)
+  pub read : OfSources call (λ sources. IsReadAt call.words sources.files index)
   pub last : call.new.files.failed_last ≡ Some name
+  pub unasked : call.new.input ≡ call.old.input
 
 -- a file failed, its line alone was written, and nothing was run
 pub record TellsOfFile (call : Call) : Type 0 where
@@ -100,57 +103,85 @@ pub record LineCut (call : Call) : Type 0 where
   pub failed : FileFailed call name
   pub cut : WasCut call (refused (cannot_read name))
 
--- no file failed, and a part of the course was cut
+-- The count of the input rose, which the words ask for, and no earlier refusal stands.
+pub record InputBroke (call : Call) : Type 0 where
+  pub read : OfSources call (λ sources. ReadsInput call.words sources.files)
+  pub took : TookUntilFault call.old.input call.new.input
+
+-- the input failed, its line alone was written, and nothing was run
+pub record TellsOfInput (call : Call) : Type 0 where
+  pub broke : InputBroke call
+  pub whole : WentWhole call (refused input_failed)
+
+-- the input failed, and then its line was cut
+pub record InputLineCut (call : Call) : Type 0 where
+  pub broke : InputBroke call
+  pub cut : WasCut call (refused input_failed)
+
+-- A part of the course for the words and these sources was cut. The input was read before that, as far as it is to be.
+pub record CutWith (call : Call) (sources : Sources) : Type 0 where
+  pub cut : WasCut call (course call.words sources)
+  pub all : (setup : Setup) → NamesGuest call.words sources setup → TookAll setup.input call.old.input call.new.input
+  pub too_many : HasLongInput call.words sources → TookTooMany call.old.input call.new.input
+
+-- no file failed, no read of the input did, and a part of the course was cut
 pub record CourseCut (call : Call) : Type 0 where
-  pub kept : call.new.files.faults ≡ call.old.files.faults
-  pub cut : OfCourse call (WasCut call)
+  pub kept : call.new.files ≡ call.old.files
+  pub unbroken : call.new.input.faults ≡ call.old.input.faults
+  pub cut : OfSources call (CutWith call)
 
 -- The words name an image and a schedule, which were run: the process is live after the configured steps, or it ended by then. Its parts
--- are written, and the board stands for the machine there.
+-- are written, the board stands for the machine there, and the input was read to its end.
 pub record Ran (live : Bool) (call : Call) : Type 0 where
-  pub config : Config
-  pub schedule : List (ℕ × ℕ)
-  pub file : List ℕ
-  pub named : OfContents call (λ files. NamesGuest call.words files config schedule file)
-  pub room : (image_of file).pages ≤ config.frames
-  pub live_is : (run_end (start config schedule file) config.steps).live ≡ live
-  pub written : HasWritten call (run_course config schedule file)
-  pub left : Stands call.left (run_end (start config schedule file) config.steps).content
+  pub setup : Setup
+  pub named : OfSources call (λ sources. NamesGuest call.words sources setup)
+  pub room : (image_of setup.file).pages ≤ setup.config.frames
+  pub live_is : (run_end (start setup) setup.config.steps).live ≡ live
+  pub written : HasWritten call (run_course setup)
+  pub left : Stands call.left (run_end (start setup) setup.config.steps).content
+  pub read : TookAll setup.input call.old.input call.new.input
 
 -- The image's file is no image. It was refused by the first rule that it breaks, in one line, and nothing was run.
 pub record TellsOfImage (call : Call) : Type 0 where
   pub fault : ImageFault
-  pub named : OfContents call (λ files. NamesNoImage call.words files fault)
+  pub named : OfSources call (λ sources. NamesNoImage call.words sources.files fault)
   pub whole : WentWhole call (refused (image_refused fault))
 
 -- the schedule's text is none, and was refused by its first wrong line
 pub record TellsOfSchedule (call : Call) : Type 0 where
   pub line : ℕ
-  pub named : OfContents call (λ files. NamesNoSchedule call.words files line)
+  pub named : OfSources call (λ sources. NamesNoSchedule call.words sources.files line)
   pub whole : WentWhole call (refused (schedule_refused line))
 
--- the image has more pages than there are frames
+-- The input has more bytes than it may have. One more than that was taken.
+pub record TellsOfLength (call : Call) : Type 0 where
+  pub named : OfSources call (HasLongInput call.words)
+  pub took : TookTooMany call.old.input call.new.input
+  pub whole : WentWhole call (refused input_too_long)
+
+-- the image has more pages than there are frames, and the input was read to its end
 pub record TellsOfFrames (call : Call) : Type 0 where
   pub pages : ℕ
   pub frames : ℕ
-  pub named : OfContents call (λ files. NamesTooMany call.words files pages frames)
+  pub named : OfSources call (λ sources. NamesTooMany call.words sources pages frames)
+  pub read : TookSome call.old.input call.new.input
   pub whole : WentWhole call (refused (frames_lacked pages frames))
 
 -- the statuses that there are
 abbrev pub statuses : List ℕ
-statuses = 0 ∷ 2 ∷ 3 ∷ 4 ∷ 5 ∷ write_fault ∷ 8 ∷ memory_wanted.status ∷ 12 ∷ []
+statuses = 0 ∷ 2 ∷ 3 ∷ 4 ∷ 5 ∷ 6 ∷ write_fault ∷ 8 ∷ memory_wanted.status ∷ 11 ∷ 12 ∷ []
 
 -- What the call promises.
 pub record Promises (call : Call) : Type 0 where
   -- Where no count rose, the status, the bytes and the board are those of the course; or memory was wanted.
   pub answered : NoneRose call.old call.new → OfCourse call (WentWhole call) ⊎ WantedMemory call
-  -- Where no write failed, they are those of the course, memory was wanted, or a file failed; and no sink met a fault.
-  pub whole : call.status ≢ write_fault → OfCourse call (WentWhole call) ⊎ (WantedMemory call ⊎ TellsOfFile call)
+  -- Where no write failed, they are those of the course, memory was wanted, a file failed or the input did; and no sink met a fault.
+  pub whole : call.status ≢ write_fault → OfCourse call (WentWhole call) ⊎ (WantedMemory call ⊎ (TellsOfFile call ⊎ TellsOfInput call))
   pub quiet : call.status ≢ write_fault → Quiet (console_of call.old) (console_of call.new)
   -- With 7 one part was cut: all before it are written whole, a prefix of it is written, and nothing after it is. The board is that
   -- of the moment: it stands for the machine after the step whose part was cut, or at the run's end where that was the last line,
-  -- and it is empty where it was the line of a refusal. Where a file had failed first, it was that line.
-  pub cut_short : call.status ≡ write_fault → CourseCut call ⊎ LineCut call
+  -- and it is empty where it was the line of a refusal. Where a file or the input had failed first, it was that line.
+  pub cut_short : call.status ≡ write_fault → CourseCut call ⊎ (LineCut call ⊎ InputLineCut call)
   -- 0 comes only where the process ended, 8 only where it is live after the configured steps.
   pub done : call.status ≡ 0 → Ran false call
   pub stopped : call.status ≡ 8 → Ran true call
@@ -163,6 +194,10 @@ pub record Promises (call : Call) : Type 0 where
   pub image_refused : call.status ≡ 4 → TellsOfImage call
   -- 5 comes only where the schedule's text is none, and names its first wrong line.
   pub schedule_refused : call.status ≡ 5 → TellsOfSchedule call
+  -- 6 comes only where the input failed.
+  pub input_failed : call.status ≡ 6 → TellsOfInput call
+  -- 11 comes only where it has more bytes than it may have.
+  pub input_too_long : call.status ≡ 11 → TellsOfLength call
   -- 12 comes only where the image has more pages than there are frames, and names both numbers.
   pub frames_lacked : call.status ≡ 12 → TellsOfFrames call
   -- 7 comes only where a sink failed.
@@ -170,25 +205,27 @@ pub record Promises (call : Call) : Type 0 where
   -- Where a count rose, and all stood below their last values, the status is that of the fault.
   pub sink_passed : CountsBelowLast call.old → SinkRose call.old call.new → call.status ≡ write_fault
   pub file_passed : CountsBelowLast call.old → SinksStill call.old call.new → Rose call.old.files.faults call.new.files.faults → call.status ≡ 3
+  pub input_passed : CountsBelowLast call.old → SinksStill call.old call.new → Rose call.old.input.faults call.new.input.faults → call.status ≡ 6
   -- With 10 nothing was written.
   pub memory_wanted : call.status ≡ memory_wanted.status → WantedMemory call
   -- With every other status nothing was run, and the board is empty.
   pub not_run : call.status ≢ write_fault → call.status ≢ 0 → call.status ≢ 8 → Left call None
   -- There are no further statuses.
   pub known : Contains statuses call.status
-  -- No count of a sink falls. No file is asked for where the words are no command, no content changes, and the input is left as it
-  -- was.
+  -- No count of a sink falls. No file is asked for where the words are no command, and no content changes. Unless a file failed the
+  -- files are as they were. The input is as it was, unless the words name an image and a schedule, so that it is read.
   pub later : Later (console_of call.old) (console_of call.new)
   pub unasked : (place : ℕ) → HasFault call place → call.new.files ≡ call.old.files
   pub contents : call.new.files.contents ≡ call.old.files.contents
-  pub input : call.new.input ≡ call.old.input
+  pub files_kept : call.status ≢ write_fault → call.status ≢ 3 → call.new.files ≡ call.old.files
+  pub input_kept : (call.new.input ≡ call.old.input) ⊎ OfSources call (λ sources. ReadsInput call.words sources.files)
 
 -- how a call went, from which all that it promises follows
 pub record Went (call : Call) : Type 0 where
   pub request : Request
   pub usable : IsUsable call.words request
-  pub comes : ComesOf call.words call.old.files.contents request
+  pub comes : ComesOf call.words call.old.files.contents call.old.input.left request
   pub files_cause : HasFilesCause call.words call.old.files call.new.files request
+  pub input_cause : HasInputCause call.old.input call.new.input request
   pub contents_kept : call.new.files.contents ≡ call.old.files.contents
-  pub input_kept : call.new.input ≡ call.old.input
   pub ends : EndsAt (course_of call.words request) (Left call) (console_of call.old) (console_of call.new) call.status

@@ -8,7 +8,7 @@ use Rattle.ufork_program.specs.declared.kernel.Kernel.{Kernel}
 
 -- the machine that a kernel is with this content
 abbrev pub machine_of : {S : _} → Kernel S → Content → Machine
-machine_of k c = record { config = k.config; schedule = k.schedule; registers = k.regs; pcc = k.pcc; content = c; writing = k.writing; live = k.live; steps = k.steps }
+machine_of k c = record { config = k.config; schedule = k.schedule; input = k.input.items; registers = k.regs; pcc = k.pcc; content = c; writing = k.writing; live = k.live; steps = k.steps }
 
 -- Its space stands for the machine's content, and all else is equal.
 pub record KernelStands {S : Type 0} (stands_for : S → Content → Type 0) (k : Kernel S) (m : Machine) : Type 0 where

@@ -1,5 +1,5 @@
 -- What the calls come to, in numbers, and the courses that aren't runs: each is the contract of a function of this crate.
-use Rattle.std.specs.Prelude.{◌≡◌, ◌≢◌, ℕ, ◌+◌, ◌-◌, ◌^◌, ◌%◌, ◌<◌, ◌≤◌, min, IsTrue, IsFalse, List, [], Some, None, Result, Ok, Err}
+use Rattle.std.specs.Prelude.{◌≡◌, ◌≢◌, ℕ, ◌+◌, ◌-◌, ◌^◌, ◌%◌, ◌<◌, ◌≤◌, min, IsTrue, IsFalse, List, [], length, Some, None, Result, Ok, Err}
 use Rattle.cap_format.specs.declared.cap.Cap.{Cap}
 use Rattle.machine_types.specs.declared.touches.Note.{Note}
 use Rattle.machine_types.specs.declared.touches.NoFrame.{NoFrame}
@@ -16,12 +16,13 @@ use Rattle.command_words.specs.Commands.{read_of}
 use Rattle.ufork_program.specs.declared.calls.Called.{Called}
 use Rattle.ufork_program.specs.declared.calls.Called.TheVariants.{Answered, Writing, Ended}
 use Rattle.elf_loader.specs.Numbers.{process_region}
-use Rattle.ufork_program.specs.Lines.{usage_line, cannot_read_line, image_refused_line, schedule_refused_line, frames_lacked_line}
+use Rattle.ufork_program.specs.Machine.{Setup}
+use Rattle.ufork_program.specs.Lines.{usage_line, cannot_read_line, image_refused_line, schedule_refused_line, input_too_long_line, frames_lacked_line}
 use Rattle.outside_io.specs.Answers.{refusal}
 use Rattle.ufork_program.specs.Calls.{CallEffect, answers, integer, place_of, is_readable, call_effect}
 use Rattle.ufork_program.specs.Run.{run_course}
-use Rattle.ufork_program.specs.Answer.{word_at, Files, course, refused}
-use Rattle.ufork_program.specs.Request.{NamesImage, NamesNoImage, NamesNoSchedule, NamesGuest, NamesTooMany}
+use Rattle.ufork_program.specs.Answer.{word_at, Sources, course, refused}
+use Rattle.ufork_program.specs.Request.{NamesImage, NamesNoImage, NamesNoSchedule, NamesFiles, NamesTooMany}
 
 -- the touches of the next transfer of a write, of so many bytes
 abbrev pub prepared : List Cap → Content → ℕ → ℕ → CallOutcome (Result (List Note) NoFrame)
@@ -57,16 +58,18 @@ pub record CallsAreExact : Type 0 where
       → call_effect r c done ≡ record { called = Ended 268; piece = []; content = (prepared r c done size).after }
   pub other : (r : List Cap) (c : Content) (done : ℕ) → integer r 17 ≢ 1 → integer r 17 ≢ 8 → call_effect r c done ≡ answers c (2 ^ 64 - 38)
 
--- The course by the words and the files: a refusal has a status and a line, during which no machine stands. What stands later in the
--- order isn't looked at.
+-- The course by the words and what is read: a refusal has a status and a line, during which no machine stands. What stands later in the
+-- order isn't looked at. An input of 1048577 bytes is too long, and one of 1048576 isn't.
 pub record CoursesAreExact : Type 0 where
-  pub words : (words : List (List ℕ)) (files : Files) (place : ℕ) → read_of words ≡ Err (record { place = place }) → course words files ≡ refused (refusal 2 (usage_line place))
-  pub unread : (words : List (List ℕ)) (files : Files) (options : Options) (image : ℕ) → read_of words ≡ Ok (Run options image) → files image ≡ None
-      → course words files ≡ refused (refusal 3 (cannot_read_line (word_at words image)))
-  pub image : (words : List (List ℕ)) (files : Files) (fault : ImageFault) → NamesNoImage words files fault → course words files ≡ refused (refusal 4 (image_refused_line fault))
-  pub no_text : (words : List (List ℕ)) (files : Files) (options : Options) (file : List ℕ) (index : ℕ) → NamesImage words files options file → options.schedule ≡ Some index → files index ≡ None
-      → course words files ≡ refused (refusal 3 (cannot_read_line (word_at words index)))
-  pub schedule : (words : List (List ℕ)) (files : Files) (line : ℕ) → NamesNoSchedule words files line → course words files ≡ refused (refusal 5 (schedule_refused_line line))
-  pub frames : (words : List (List ℕ)) (files : Files) (pages frames : ℕ) → NamesTooMany words files pages frames → course words files ≡ refused (refusal 12 (frames_lacked_line pages frames))
-  pub run : (words : List (List ℕ)) (files : Files) (config : Config) (schedule : List (ℕ × ℕ)) (file : List ℕ) → NamesGuest words files config schedule file → (image_of file).pages ≤ config.frames
-      → course words files ≡ run_course config schedule file
+  pub words : (words : List (List ℕ)) (sources : Sources) (place : ℕ) → read_of words ≡ Err (record { place = place }) → course words sources ≡ refused (refusal 2 (usage_line place))
+  pub unread : (words : List (List ℕ)) (sources : Sources) (options : Options) (image : ℕ) → read_of words ≡ Ok (Run options image) → sources.files image ≡ None
+      → course words sources ≡ refused (refusal 3 (cannot_read_line (word_at words image)))
+  pub image : (words : List (List ℕ)) (sources : Sources) (fault : ImageFault) → NamesNoImage words sources.files fault → course words sources ≡ refused (refusal 4 (image_refused_line fault))
+  pub no_text : (words : List (List ℕ)) (sources : Sources) (options : Options) (file : List ℕ) (index : ℕ) → NamesImage words sources.files options file → options.schedule ≡ Some index
+      → sources.files index ≡ None → course words sources ≡ refused (refusal 3 (cannot_read_line (word_at words index)))
+  pub schedule : (words : List (List ℕ)) (sources : Sources) (line : ℕ) → NamesNoSchedule words sources.files line → course words sources ≡ refused (refusal 5 (schedule_refused_line line))
+  pub long : (words : List (List ℕ)) (sources : Sources) (config : Config) (schedule : List (ℕ × ℕ)) (file : List ℕ) → NamesFiles words sources.files config schedule file
+      → 1048577 ≤ length sources.input → course words sources ≡ refused (refusal 11 input_too_long_line)
+  pub frames : (words : List (List ℕ)) (sources : Sources) (pages frames : ℕ) → NamesTooMany words sources pages frames → course words sources ≡ refused (refusal 12 (frames_lacked_line pages frames))
+  pub run : (words : List (List ℕ)) (sources : Sources) (setup : Setup) → NamesFiles words sources.files setup.config setup.schedule setup.file → setup.input ≡ sources.input
+      → length sources.input ≤ 1048576 → (image_of setup.file).pages ≤ setup.config.frames → course words sources ≡ run_course setup

@@ -5,6 +5,7 @@ pub mod Calls
 pub mod Steps
 pub mod Run
 pub mod Kernel
+pub mod Input
 pub mod Answer
 pub mod Request
 pub mod Reading

@@ -52,6 +52,14 @@ image_refused_line fault = codes "ufork: image refused: " ++ (reason_text fault.
 abbrev pub schedule_refused_line : ℕ → List ℕ
 schedule_refused_line line = codes "ufork: schedule refused: line " ++ (decimal line ++ codes "\n")
 
+-- the console's input was not read
+abbrev pub input_failed_line : List ℕ
+input_failed_line = codes "ufork: input failed\n"
+
+-- it has more bytes than it may have
+abbrev pub input_too_long_line : List ℕ
+input_too_long_line = codes "ufork: input too long\n"
+
 -- the image has more pages than there are frames
 abbrev pub frames_lacked_line : ℕ → ℕ → List ℕ
 frames_lacked_line pages frames = codes "ufork: image needs " ++ (decimal pages ++ (codes " pages, " ++ (decimal frames ++ codes " frames\n")))

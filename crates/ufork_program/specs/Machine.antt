@@ -14,11 +14,20 @@ use Rattle.elf_loader.specs.Start.{started, start_registers, start_pcc}
 use Rattle.ufork_program.specs.Numbers.{write_call, console_output}
 use Rattle.ufork_program.specs.Calls.{integer}
 
--- What the machine is made with, and the schedule of its timer, which one process never sees; the process's registers and PCC, and the
--- stores with their account; the bytes done of a write that is underway, or none; whether the process is live, and the steps made.
+-- What a run is set up with: its configuration, the schedule of its timer, the image's file and the console's input.
+pub record Setup : Type 0 where
+  pub config : Config
+  pub schedule : List (ℕ × ℕ)
+  pub file : List ℕ
+  pub input : List ℕ
+
+-- What the machine is made with; the schedule of its timer, which one process never sees; the console's input, which no call takes of so
+-- far; the process's registers and PCC, and the stores with their account; the bytes done of a write that is underway, or none; whether
+-- the process is live, and the steps made.
 pub record Machine : Type 0 where
   pub config : Config
   pub schedule : List (ℕ × ℕ)
+  pub input : List ℕ
   pub registers : List Cap
   pub pcc : Cap
   pub content : Content
@@ -26,14 +35,15 @@ pub record Machine : Type 0 where
   pub live : Bool
   pub steps : ℕ
 
--- the machine where the image in a file was started
-abbrev pub start : Config → List (ℕ × ℕ) → List ℕ → Machine
-start config schedule file = record {
-  config = config;
-  schedule = schedule;
+-- the machine where the image in the file was started
+abbrev pub start : Setup → Machine
+start setup = record {
+  config = setup.config;
+  schedule = setup.schedule;
+  input = setup.input;
   registers = start_registers;
-  pcc = start_pcc (image_of file).entry;
-  content = started file (image_of file) (nothing config.rule config.frames);
+  pcc = start_pcc (image_of setup.file).entry;
+  content = started setup.file (image_of setup.file) (nothing setup.config.rule setup.config.frames);
   writing = None;
   live = true;
   steps = 0;

@@ -1,24 +1,26 @@
 -- What each file that a command names comes to, before a request is made of it.
-use Rattle.std.specs.Prelude.{◌≡◌, ℕ, List, [], Some, None, IfSome, Result, Ok, Err, MatchResult, length, ⊤}
+use Rattle.std.specs.Prelude.{◌≡◌, ℕ, List, [], Some, None, IfSome, IsOk, Result, Ok, Err, MatchResult, length, ⊤}
 use Rattle.std.specs.declared.option.Option.{Option}
-use Rattle.outside_io.specs.States.{FilesState}
+use Rattle.outside_io.specs.States.{FilesState, SourceState}
 use Rattle.cap_format.specs.declared.image.ImageFault.{ImageFault}
 use Rattle.cap_format.specs.Image.{fault_of}
 use Rattle.elf_loader.specs.Loaded.{IsRead}
 use Rattle.command_words.specs.declared.words.Options.{Options}
 use Rattle.command_words.specs.declared.words.Command.TheVariants as command
 use Rattle.command_words.specs.Commands.{read_of}
-use Rattle.command_words.specs.Sayings.{IsCommandOf}
+use Rattle.command_words.specs.Sayings.{IsCommandOf, IsWithinLimits}
 use Rattle.run_texts.specs.Schedules.{schedule_of}
-use Rattle.ufork_program.specs.Answer.{named_by}
-use Rattle.ufork_program.specs.Request.{HasFilesCause}
+use Rattle.ufork_program.specs.Input.{TookTooMany, TookUntilFault}
+use Rattle.ufork_program.specs.Answer.{Files, named_by}
+use Rattle.ufork_program.specs.Request.{NamesNoImage, NamesNoSchedule, NamesFiles, IsReadAt, IsUsable, HasFilesCause}
 use Rattle.ufork_program.specs.declared.request.Guest.{Guest}
 use Rattle.ufork_program.specs.declared.request.Request.{Request}
 use Rattle.ufork_program.specs.declared.request.Request.TheVariants as request
-use Rattle.ufork_program.specs.declared.request.CommandRefusal.TheVariants.{Usage, CannotRead, NoImage, NoSchedule, NoFrames}
+use Rattle.ufork_program.specs.declared.request.CommandRefusal.TheVariants.{Usage, CannotRead, NoImage, NoSchedule, InputFailed, InputTooLong, NoFrames}
 use Rattle.ufork_program.specs.declared.request.Stop.{Stop}
 use Rattle.ufork_program.specs.declared.request.Stop.TheVariants.{Refused, NoMemory}
 use Rattle.ufork_program.specs.declared.request.ImageFile.{ImageFile}
+use Rattle.ufork_program.specs.declared.request.NamedFiles.{NamedFiles}
 
 -- what names hold, where that is told
 abbrev pub Told : Type 0
@@ -52,6 +54,8 @@ IsImageAt words told index (Err (Refused (Usage place))) = ⊥
 IsImageAt words told index (Err (Refused (CannotRead failed))) = failed ≡ index
 IsImageAt words told index (Err (Refused (NoImage fault))) = IsNoImageAt words told index fault
 IsImageAt words told index (Err (Refused (NoSchedule line))) = ⊥
+IsImageAt words told index (Err (Refused InputFailed)) = ⊥
+IsImageAt words told index (Err (Refused InputTooLong)) = ⊥
 IsImageAt words told index (Err (Refused (NoFrames pages frames))) = ⊥
 IsImageAt words told index (Err NoMemory) = ⊤
 
@@ -62,6 +66,8 @@ IsScheduleFileAt words told index (Err (Refused (Usage place))) = ⊥
 IsScheduleFileAt words told index (Err (Refused (CannotRead failed))) = failed ≡ index
 IsScheduleFileAt words told index (Err (Refused (NoImage fault))) = ⊥
 IsScheduleFileAt words told index (Err (Refused (NoSchedule line))) = IsScheduleTextAt words told index (Err line)
+IsScheduleFileAt words told index (Err (Refused InputFailed)) = ⊥
+IsScheduleFileAt words told index (Err (Refused InputTooLong)) = ⊥
 IsScheduleFileAt words told index (Err (Refused (NoFrames pages frames))) = ⊥
 IsScheduleFileAt words told index (Err NoMemory) = ⊤
 
@@ -75,16 +81,54 @@ abbrev pub IsOptionRead : List (List ℕ) → Told → Option ℕ → Result (Li
 IsOptionRead words told None result = IsEmptySchedule result
 IsOptionRead words told (Some index) result = IsScheduleFileAt words told index result
 
+-- What the files of a command say was read from contents that may stand there; or one of them was refused, failed, or memory was wanted.
+abbrev pub AreFilesOf : List (List ℕ) → Files → Result NamedFiles Stop → Type 0
+AreFilesOf words files (Ok named) = NamesFiles words files named.config named.schedule named.bytes.items
+AreFilesOf words files (Err (Refused (Usage place))) = ⊥
+AreFilesOf words files (Err (Refused (CannotRead index))) = IsReadAt words files index
+AreFilesOf words files (Err (Refused (NoImage fault))) = NamesNoImage words files fault
+AreFilesOf words files (Err (Refused (NoSchedule line))) = NamesNoSchedule words files line
+AreFilesOf words files (Err (Refused InputFailed)) = ⊥
+AreFilesOf words files (Err (Refused InputTooLong)) = ⊥
+AreFilesOf words files (Err (Refused (NoFrames pages frames))) = ⊥
+AreFilesOf words files (Err NoMemory) = IsOk (read_of words)
+
+-- so it is for the contents that are told, and for some where none are
+pub record ComesOfFiles (words : List (List ℕ)) (told : Told) (result : Result NamedFiles Stop) : Type 0 where
+  pub files : Files
+  pub told_is : IfSome told (λ contents. files ≡ named_by words contents)
+  pub is : AreFilesOf words files result
+
+-- the image was read from its bytes, and the configuration is within the limits
+pub record IsNamed (named : NamedFiles) : Type 0 where
+  pub read : IsRead named.bytes.items (Ok named.image)
+  pub within : IsWithinLimits named.config
+
+-- why there is no input, and what was taken of it
+abbrev pub IsInputStop : SourceState → SourceState → Stop → Type 0
+IsInputStop old new (Refused (Usage place)) = ⊥
+IsInputStop old new (Refused (CannotRead index)) = ⊥
+IsInputStop old new (Refused (NoImage fault)) = ⊥
+IsInputStop old new (Refused (NoSchedule line)) = ⊥
+IsInputStop old new (Refused InputFailed) = TookUntilFault old new
+IsInputStop old new (Refused InputTooLong) = TookTooMany old new
+IsInputStop old new (Refused (NoFrames pages frames)) = ⊥
+IsInputStop old new NoMemory = new ≡ old
+
 -- what is answered where no guest was read
 abbrev pub stopped : Stop → Request
 stopped (Refused refusal) = request.Refused refusal
 stopped NoMemory = request.NoMemory
+
+-- what was read can be used, and so can what is answered else
+abbrev pub AreUsable : List (List ℕ) → Result NamedFiles Stop → Type 0
+AreUsable words result = MatchResult result IsNamed (λ stop. IsUsable words (stopped stop))
 
 -- and in each case
 abbrev pub request_by : Result Guest Stop → Request
 request_by (Ok guest) = request.Run guest
 request_by (Err stop) = stopped stop
 
--- what was read raised no count, and what was not has its cause
+-- where something was read the files are as they were, and what was not read has its cause
 abbrev pub HasReadCause : {T : Type 0} → List (List ℕ) → FilesState → FilesState → Result T Stop → Type 0
-HasReadCause words old new result = MatchResult result (λ _. new.faults ≡ old.faults) (λ stop. HasFilesCause words old new (stopped stop))
+HasReadCause words old new result = MatchResult result (λ _. new ≡ old) (λ stop. HasFilesCause words old new (stopped stop))

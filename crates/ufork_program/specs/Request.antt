@@ -2,7 +2,7 @@
 use Rattle.std.specs.Prelude.{◌≡◌, ℕ, ◌<◌, ◌≤◌, ◌⊎◌, List, [], Some, None, IsOk, IfSome, IsSomeAnd, Ok, Err, length, ⊤}
 use Rattle.std.specs.declared.option.Option.{Option}
 use Rattle.outside_io.specs.Faults.{Rose}
-use Rattle.outside_io.specs.States.{FilesState}
+use Rattle.outside_io.specs.States.{FilesState, SourceState}
 use Rattle.outside_io.specs.Answers.{Answer, memory_wanted}
 use Rattle.outside_io.specs.Moments.{Course}
 use Rattle.cap_format.specs.declared.image.ImageFault.{ImageFault}
@@ -14,14 +14,16 @@ use Rattle.command_words.specs.declared.words.Command.TheVariants.{Run}
 use Rattle.command_words.specs.Commands.{read_of}
 use Rattle.command_words.specs.Sayings.{IsWithinLimits}
 use Rattle.run_texts.specs.Schedules.{schedule_of}
-use Rattle.ufork_program.specs.Machine.{Machine}
+use Rattle.ufork_program.specs.Numbers.{most_input}
+use Rattle.ufork_program.specs.Machine.{Machine, Setup}
 use Rattle.ufork_program.specs.Run.{run_course}
-use Rattle.ufork_program.specs.Answer.{word_at, Files, named_by, usage, cannot_read, image_refused, schedule_refused, frames_lacked, refused}
+use Rattle.ufork_program.specs.Input.{TookAll, TookTooMany, TookUntilFault}
+use Rattle.ufork_program.specs.Answer.{word_at, Files, named_by, Sources, usage, cannot_read, image_refused, schedule_refused, input_failed, input_too_long, frames_lacked, refused}
 use Rattle.ufork_program.specs.declared.request.Guest.{Guest}
 use Rattle.ufork_program.specs.declared.request.Request.{Request}
 use Rattle.ufork_program.specs.declared.request.Request.TheVariants as request
 use Rattle.ufork_program.specs.declared.request.CommandRefusal.{CommandRefusal}
-use Rattle.ufork_program.specs.declared.request.CommandRefusal.TheVariants.{Usage, CannotRead, NoImage, NoSchedule, NoFrames}
+use Rattle.ufork_program.specs.declared.request.CommandRefusal.TheVariants.{Usage, CannotRead, NoImage, NoSchedule, InputFailed, InputTooLong, NoFrames}
 
 -- the answer to a refusal
 abbrev pub refusal_of : List (List ℕ) → CommandRefusal → Answer
@@ -29,13 +31,19 @@ refusal_of words (Usage place) = usage place
 refusal_of words (CannotRead index) = cannot_read (word_at words index)
 refusal_of words (NoImage fault) = image_refused fault
 refusal_of words (NoSchedule line) = schedule_refused line
+refusal_of words InputFailed = input_failed
+refusal_of words InputTooLong = input_too_long
 refusal_of words (NoFrames pages frames) = frames_lacked pages frames
+
+-- what a guest is set up with
+abbrev pub setup_of : Guest → Setup
+setup_of guest = record { config = guest.config; schedule = guest.schedule; file = guest.bytes.items; input = guest.input.items }
 
 -- the course from there
 abbrev pub course_of : List (List ℕ) → Request → Course (Option Machine)
 course_of words (request.Refused refusal) = refused (refusal_of words refusal)
 course_of words request.NoMemory = refused memory_wanted
-course_of words (request.Run guest) = run_course guest.config guest.schedule guest.bytes.items
+course_of words (request.Run guest) = run_course (setup_of guest)
 
 -- The words are a command, and the file of its image has this content.
 pub record NamesFile (words : List (List ℕ)) (files : Files) (options : Options) (file : List ℕ) : Type 0 where
@@ -80,21 +88,37 @@ abbrev pub IsScheduleAt : Files → Option ℕ → List (ℕ × ℕ) → Type 0
 IsScheduleAt files None schedule = schedule ≡ []
 IsScheduleAt files (Some index) schedule = HasSchedule (files index) schedule
 
--- The words name an image and, if at all, a schedule, with this configuration.
-pub record NamesGuest (words : List (List ℕ)) (files : Files) (config : Config) (schedule : List (ℕ × ℕ)) (file : List ℕ) : Type 0 where
+-- The words name an image and, if at all, a schedule, with this configuration. So the console's input is read.
+pub record NamesFiles (words : List (List ℕ)) (files : Files) (config : Config) (schedule : List (ℕ × ℕ)) (file : List ℕ) : Type 0 where
   pub options : Options
   pub names : NamesImage words files options file
   pub config_is : options.config ≡ config
   pub schedule_is : IsScheduleAt files options.schedule schedule
 
--- and the image has more pages than there are frames
-pub record NamesTooMany (words : List (List ℕ)) (files : Files) (pages frames : ℕ) : Type 0 where
+-- for some configuration, schedule and image
+pub record ReadsInput (words : List (List ℕ)) (files : Files) : Type 0 where
   pub config : Config
   pub schedule : List (ℕ × ℕ)
   pub file : List ℕ
-  pub names : NamesGuest words files config schedule file
-  pub pages_are : (image_of file).pages ≡ pages
-  pub frames_are : config.frames ≡ frames
+  pub names : NamesFiles words files config schedule file
+
+-- the input is read, and has more bytes than it may have
+pub record HasLongInput (words : List (List ℕ)) (sources : Sources) : Type 0 where
+  pub reads : ReadsInput words sources.files
+  pub longer : most_input < length sources.input
+
+-- The words name what is set up, and the input has no more bytes than it may have.
+pub record NamesGuest (words : List (List ℕ)) (sources : Sources) (setup : Setup) : Type 0 where
+  pub names : NamesFiles words sources.files setup.config setup.schedule setup.file
+  pub input_is : setup.input ≡ sources.input
+  pub fits : length setup.input ≤ most_input
+
+-- and the image has more pages than there are frames
+pub record NamesTooMany (words : List (List ℕ)) (sources : Sources) (pages frames : ℕ) : Type 0 where
+  pub setup : Setup
+  pub names : NamesGuest words sources setup
+  pub pages_are : (image_of setup.file).pages ≡ pages
+  pub frames_are : setup.config.frames ≡ frames
   pub fewer : frames < pages
 
 -- The word at an index names a file that is read: the image's, or the schedule's, where the image's is an image.
@@ -104,31 +128,57 @@ pub record IsReadAt (words : List (List ℕ)) (files : Files) (index : ℕ) : Ty
   pub command : read_of words ≡ Ok (Run options image)
   pub which : (index ≡ image) ⊎ ((options.schedule ≡ Some index) × IsSomeAnd (files image) IsImage)
 
--- It is what these contents lead to, but for a file that failed and for want of memory.
-abbrev pub IsRequestOf : List (List ℕ) → Files → Request → Type 0
-IsRequestOf words files (request.Refused (Usage place)) = read_of words ≡ Err (record { place = place })
-IsRequestOf words files (request.Refused (CannotRead index)) = IsReadAt words files index
-IsRequestOf words files (request.Refused (NoImage fault)) = NamesNoImage words files fault
-IsRequestOf words files (request.Refused (NoSchedule line)) = NamesNoSchedule words files line
-IsRequestOf words files (request.Refused (NoFrames pages frames)) = NamesTooMany words files pages frames
-IsRequestOf words files request.NoMemory = IsOk (read_of words)
-IsRequestOf words files (request.Run guest) = NamesGuest words files guest.config guest.schedule guest.bytes.items
+-- It is what these sources lead to, but for a file or an input that failed and for want of memory.
+abbrev pub IsRequestOf : List (List ℕ) → Sources → Request → Type 0
+IsRequestOf words sources (request.Refused (Usage place)) = read_of words ≡ Err (record { place = place })
+IsRequestOf words sources (request.Refused (CannotRead index)) = IsReadAt words sources.files index
+IsRequestOf words sources (request.Refused (NoImage fault)) = NamesNoImage words sources.files fault
+IsRequestOf words sources (request.Refused (NoSchedule line)) = NamesNoSchedule words sources.files line
+IsRequestOf words sources (request.Refused InputFailed) = ReadsInput words sources.files
+IsRequestOf words sources (request.Refused InputTooLong) = HasLongInput words sources
+IsRequestOf words sources (request.Refused (NoFrames pages frames)) = NamesTooMany words sources pages frames
+IsRequestOf words sources request.NoMemory = IsOk (read_of words)
+IsRequestOf words sources (request.Run guest) = NamesGuest words sources (setup_of guest)
 
--- so it is for the contents that are told, and for some where none are
-pub record ComesOf (words : List (List ℕ)) (told : Option (List ℕ → Option (List ℕ))) (request : Request) : Type 0 where
-  pub files : Files
-  pub told_is : IfSome told (λ contents. files ≡ named_by words contents)
-  pub is : IsRequestOf words files request
+-- They are those that are told: the contents of files, and what the input has left.
+pub record AreTold (words : List (List ℕ)) (contents : Option (List ℕ → Option (List ℕ))) (left : Option (List ℕ)) (sources : Sources) : Type 0 where
+  pub files : IfSome contents (λ contents. sources.files ≡ named_by words contents)
+  pub input : IfSome left (λ left. sources.input ≡ left)
 
--- A file that was not read raised the count, and its name failed last. Nothing else raised the count.
+-- the request is that of the sources that are told, and of some where none are
+pub record ComesOf (words : List (List ℕ)) (contents : Option (List ℕ → Option (List ℕ))) (left : Option (List ℕ)) (request : Request) : Type 0 where
+  pub sources : Sources
+  pub told : AreTold words contents left sources
+  pub is : IsRequestOf words sources request
+
+-- A file that was not read raised the count, and its name failed last. Else the files are as they were.
 abbrev pub HasFilesCause : List (List ℕ) → FilesState → FilesState → Request → Type 0
 HasFilesCause words old new (request.Refused (Usage place)) = new ≡ old
 HasFilesCause words old new (request.Refused (CannotRead index)) = Rose old.faults new.faults × (new.failed_last ≡ Some (word_at words index))
-HasFilesCause words old new (request.Refused (NoImage fault)) = new.faults ≡ old.faults
-HasFilesCause words old new (request.Refused (NoSchedule line)) = new.faults ≡ old.faults
-HasFilesCause words old new (request.Refused (NoFrames pages frames)) = new.faults ≡ old.faults
-HasFilesCause words old new request.NoMemory = new.faults ≡ old.faults
-HasFilesCause words old new (request.Run guest) = new.faults ≡ old.faults
+HasFilesCause words old new (request.Refused (NoImage fault)) = new ≡ old
+HasFilesCause words old new (request.Refused (NoSchedule line)) = new ≡ old
+HasFilesCause words old new (request.Refused InputFailed) = new ≡ old
+HasFilesCause words old new (request.Refused InputTooLong) = new ≡ old
+HasFilesCause words old new (request.Refused (NoFrames pages frames)) = new ≡ old
+HasFilesCause words old new request.NoMemory = new ≡ old
+HasFilesCause words old new (request.Run guest) = new ≡ old
+
+-- some input was read to its end
+pub record TookSome (old new : SourceState) : Type 0 where
+  pub bytes : List ℕ
+  pub all : TookAll bytes old new
+
+-- The input was read where nothing else was refused before, and is else as it was.
+abbrev pub HasInputCause : SourceState → SourceState → Request → Type 0
+HasInputCause old new (request.Refused (Usage place)) = new ≡ old
+HasInputCause old new (request.Refused (CannotRead index)) = new ≡ old
+HasInputCause old new (request.Refused (NoImage fault)) = new ≡ old
+HasInputCause old new (request.Refused (NoSchedule line)) = new ≡ old
+HasInputCause old new (request.Refused InputFailed) = TookUntilFault old new
+HasInputCause old new (request.Refused InputTooLong) = TookTooMany old new
+HasInputCause old new (request.Refused (NoFrames pages frames)) = TookSome old new
+HasInputCause old new request.NoMemory = new ≡ old
+HasInputCause old new (request.Run guest) = TookAll guest.input.items old new
 
 -- A guest's image was read from its bytes, its configuration is within the limits, and there is a frame for each page.
 pub record CanRun (guest : Guest) : Type 0 where
@@ -142,6 +192,8 @@ IsUsable words (request.Refused (Usage place)) = ⊤
 IsUsable words (request.Refused (CannotRead index)) = index < length words
 IsUsable words (request.Refused (NoImage fault)) = ⊤
 IsUsable words (request.Refused (NoSchedule line)) = ⊤
+IsUsable words (request.Refused InputFailed) = ⊤
+IsUsable words (request.Refused InputTooLong) = ⊤
 IsUsable words (request.Refused (NoFrames pages frames)) = ⊤
 IsUsable words request.NoMemory = ⊤
 IsUsable words (request.Run guest) = CanRun guest

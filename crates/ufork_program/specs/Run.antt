@@ -3,9 +3,8 @@ use Rattle.std.specs.Prelude.{◌≡◌, ℕ, zero, suc, ◌+◌, ◌<◌, ◌�
 use Rattle.std.specs.declared.option.Option.{Option}
 use Rattle.outside_io.specs.Parts.{err_part}
 use Rattle.outside_io.specs.Moments.{Moment, Course, while_stands}
-use Rattle.machine_types.specs.declared.config.Config.{Config}
 use Rattle.ufork_program.specs.Lines.{done_line, stopped_line}
-use Rattle.ufork_program.specs.Machine.{Machine, start}
+use Rattle.ufork_program.specs.Machine.{Machine, Setup, start}
 use Rattle.ufork_program.specs.Steps.{step_of, step_parts}
 
 -- The moments of a run of at most so many steps, which ends where the process does. While the parts of a step are written, the
@@ -32,9 +31,9 @@ course_from m limit =
     let end = run_end m limit in
     record { status = status_at end; moments = run_moments m limit ++ (err_part (last_line end), Some end) ∷ []; end = Some end }
 
--- the run of the image in a file, of at most the configured steps
-abbrev pub run_course : Config → List (ℕ × ℕ) → List ℕ → Course (Option Machine)
-run_course config schedule file = course_from (start config schedule file) config.steps
+-- the run of what is set up, of at most the configured steps
+abbrev pub run_course : Setup → Course (Option Machine)
+run_course setup = course_from (start setup) setup.config.steps
 
 -- the machine after so many steps
 unfoldable pub state_after : Machine → ℕ → Machine

@@ -8,7 +8,6 @@ use Rattle.cap_format.specs.Made.{from_int}
 use Rattle.cap_format.specs.Image.{IsImage}
 use Rattle.machine_types.specs.declared.cause.Cause.{Cause}
 use Rattle.machine_types.specs.Causes.{cause_number}
-use Rattle.machine_types.specs.declared.config.Config.{Config}
 use Rattle.machine_types.specs.declared.touches.Access.TheVariants.{Read}
 use Rattle.machine_types.specs.Registers.{with_register}
 use Rattle.machine_types.specs.MemoryLaws.{AreBytes}
@@ -24,7 +23,7 @@ use Rattle.elf_loader.specs.Start.{start_registers, start_pcc}
 use Rattle.elf_loader.specs.StartLaws.{MayStart, started_from}
 use Rattle.ufork_program.specs.declared.calls.Called.TheVariants.{Answered, Writing, Ended}
 use Rattle.ufork_program.specs.Calls.{call_effect, place_of, is_readable}
-use Rattle.ufork_program.specs.Machine.{Machine, start}
+use Rattle.ufork_program.specs.Machine.{Machine, Setup, start}
 use Rattle.ufork_program.specs.Steps.{Step, step_of}
 use Rattle.ufork_program.specs.Run.{run_course, course_from}
 
@@ -35,7 +34,7 @@ effect_at m = effect (state m.registers m.pcc m.content) process_region
 -- the machine goes on with this, one step later, and has printed a piece
 abbrev pub goes_on : Machine → List Cap → Cap → Content → Option ℕ → List ℕ → Step
 goes_on m registers pcc content writing piece = record {
-  after = record { config = m.config; schedule = m.schedule; registers = registers; pcc = pcc; content = content; writing = writing; live = true; steps = m.steps + 1 };
+  after = record { config = m.config; schedule = m.schedule; input = m.input; registers = registers; pcc = pcc; content = content; writing = writing; live = true; steps = m.steps + 1 };
   piece = piece;
   ended = None;
 }
@@ -43,7 +42,7 @@ goes_on m registers pcc content writing piece = record {
 -- its process ends with a status: no region of it is left, and nothing is underway
 abbrev pub ends : Machine → State → Content → List ℕ → ℕ → Step
 ends m s content piece status = record {
-  after = record { config = m.config; schedule = m.schedule; registers = s.registers; pcc = s.pcc; content = end_of content process_region; writing = None; live = false; steps = m.steps + 1 };
+  after = record { config = m.config; schedule = m.schedule; input = m.input; registers = s.registers; pcc = s.pcc; content = end_of content process_region; writing = None; live = false; steps = m.steps + 1 };
   piece = piece;
   ended = Some status;
 }
@@ -76,24 +75,25 @@ pub record MayBeRead (c : Content) (cap : Cap) (count : ℕ) : Type 0 where
   pub covered : IsTrue (covers_of c process_region (place_of cap) count Read)
 
 -- A run is at most the configured steps of the machine that starts with the image. That one has the registers, PCC and stores of the image's
--- start, which is made where there is a frame for each page; it has the rule and the frames of its configuration; it is live, has made no
--- step, and has no write underway.
-pub record RunsBegin (config : Config) (schedule : List (ℕ × ℕ)) (file : List ℕ) : Type 0 where
-  pub course : run_course config schedule file ≡ course_from (start config schedule file) config.steps
-  pub config_is : (start config schedule file).config ≡ config
-  pub schedule_is : (start config schedule file).schedule ≡ schedule
-  pub registers : (start config schedule file).registers ≡ start_registers
-  pub pcc : (start config schedule file).pcc ≡ start_pcc (image_of file).entry
-  pub content : (start config schedule file).content ≡ started_from file (nothing config.rule config.frames)
-  pub may : IsImage file → AreBytes file → (image_of file).pages ≤ config.frames → MayStart file (nothing config.rule config.frames)
-  pub rule : (start config schedule file).content.rule ≡ config.rule
-  pub frames : (start config schedule file).content.frames ≡ config.frames
-  pub writing : (start config schedule file).writing ≡ None
-  pub live : (start config schedule file).live ≡ true
-  pub steps : (start config schedule file).steps ≡ 0
+-- start, which is made where there is a frame for each page; it has the rule and the frames of its configuration, and the schedule and the
+-- input that are set up; it is live, has made no step, and has no write underway.
+pub record RunsBegin (setup : Setup) : Type 0 where
+  pub course : run_course setup ≡ course_from (start setup) setup.config.steps
+  pub config_is : (start setup).config ≡ setup.config
+  pub schedule_is : (start setup).schedule ≡ setup.schedule
+  pub input_is : (start setup).input ≡ setup.input
+  pub registers : (start setup).registers ≡ start_registers
+  pub pcc : (start setup).pcc ≡ start_pcc (image_of setup.file).entry
+  pub content : (start setup).content ≡ started_from setup.file (nothing setup.config.rule setup.config.frames)
+  pub may : IsImage setup.file → AreBytes setup.file → (image_of setup.file).pages ≤ setup.config.frames → MayStart setup.file (nothing setup.config.rule setup.config.frames)
+  pub rule : (start setup).content.rule ≡ setup.config.rule
+  pub frames : (start setup).content.frames ≡ setup.config.frames
+  pub writing : (start setup).writing ≡ None
+  pub live : (start setup).live ≡ true
+  pub steps : (start setup).steps ≡ 0
 
 -- Each step is what it is case by case, exactly those bytes are readable for a call, and each run begins so.
 pub record MachinesAreExact : Type 0 where
   pub steps : StepsAreExact
   pub readable : (c : Content) (cap : Cap) (count : ℕ) → IsTrue (is_readable c cap count) ↔ MayBeRead c cap count
-  pub begins : (config : Config) (schedule : List (ℕ × ℕ)) (file : List ℕ) → RunsBegin config schedule file
+  pub begins : (setup : Setup) → RunsBegin setup

@@ -28,6 +28,7 @@ use stores::Stores;
 pub struct Kernel<S> {
     config: Config,
     schedule: Schedule,
+    input: Vec<u8>,
     regs: Regs,
     pcc: Cap,
     space: S,
@@ -42,11 +43,12 @@ impl<S: Stores> Kernel<S> {
     ghost use Rattle.ufork_program.specs.Steps.{step_of};
     ghost use Rattle.ufork_program.specs.Kernel.{KernelStands, StandsForSome};
 
-    /// The process at its start, for an image that was read from these bytes. In the space no region has a store, and the rule and the
-    /// number of frames are those of the configuration, which has a frame for each page of the image.
+    /// The process at its start, with this console's input, for an image that was read from these bytes. In the space no region has a
+    /// store, and the rule and the number of frames are those of the configuration, which has a frame for each page of the image.
     pub fn boot(
         config: Config,
         schedule: Schedule,
+        input: Vec<u8>,
         image: &Image,
         bytes: &[u8],
         space: S,
@@ -54,7 +56,7 @@ impl<S: Stores> Kernel<S> {
         requires read { IsRead bytes.now (Ok image.now) }
         requires room { image.now.pages ≤ config.frames }
         requires fresh { ∥ StandsFor S.stands_for space (IsFresh config) ∥₁ }
-        ensures stands { S.stands_for space (nothing config.rule config.frames) → KernelStands S.stands_for result (start config schedule bytes.now) }
+        ensures stands { S.stands_for space (nothing config.rule config.frames) → KernelStands S.stands_for result (start (record { config = config; schedule = schedule; file = bytes.now; input = input.items })) }
         ensures sound { ∥ StandsForSome S.stands_for result IsSound ∥₁ }
         ensures begun { result.steps ≡ 0 }
     {
@@ -67,6 +69,7 @@ impl<S: Stores> Kernel<S> {
         Kernel {
             config,
             schedule,
+            input,
             regs,
             pcc,
             space,
@@ -130,6 +133,7 @@ impl<S: Stores> Kernel<S> {
         let Kernel {
             config: _config,
             schedule: _schedule,
+            input: _input,
             regs: _regs,
             pcc: _pcc,
             space,

@@ -33,7 +33,7 @@ pub fn calls_are_exact()
     ensures { CallsAreExact }
 {}
 
-/// What the program does, by its words and the file.
+/// What the program does, by its words, the files and the input.
 pub fn courses_are_exact()
     ensures { CoursesAreExact }
 {}
@@ -57,7 +57,8 @@ pub fn machines_are_exact()
     calls_keep_whole();
 }
 
-/// What a call's promise comes to where the contents of files are told: which files were run or failed, and what a cut run leaves.
+/// What a call's promise comes to where the contents of files and the bytes of the input are told: what was run, refused or failed, and
+/// what a cut run leaves.
 pub fn promises_tell()
     ensures { PromisesTell }
 {

@@ -1,11 +1,12 @@
 //! The top call: from the words, the files, the input, two sinks and a board to a status and the board.
 //!
 //! [`ufork`] reads first and writes after. Its contract says which status and which bytes come, and which machine the board
-//! stands for at the end, as a function of the words and the contents of the files; and what stands where a part of the outside
-//! fails.
+//! stands for at the end, as a function of the words, the contents of the files and the bytes of the input; and what stands where a part
+//! of the outside fails.
 #![tactic(auto)]
 
 mod calls;
+mod input;
 mod kernel;
 mod laws;
 mod lines;

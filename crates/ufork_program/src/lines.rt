@@ -1,7 +1,7 @@
 // Lines, made on the stack.
 ghost use Rattle.std.specs.Prelude.{◌≡◌, ◌+◌, ◌≤◌, ◌^◌, ◌<◌, ◌++◌, if◌then◌else◌, codes, length, decimal};
 ghost use Rattle.outside_io.specs.States.{PrintsText};
-ghost use Rattle.ufork_program.specs.Lines.{exit_line, done_line, stopped_line, cannot_read_line, usage_line, schedule_refused_line, frames_lacked_line, reason_text, image_refused_line};
+ghost use Rattle.ufork_program.specs.Lines.{exit_line, done_line, stopped_line, cannot_read_line, usage_line, schedule_refused_line, input_failed_line, input_too_long_line, frames_lacked_line, reason_text, image_refused_line};
 
 use cap_format::{ImageFault, ImageReason};
 use itoa::write_digits;
@@ -132,6 +132,20 @@ pub fn write_schedule_refused<E: Sink>(number: u64, err: &mut E) -> Result<(), F
     line.put_number(number);
     line.put(b"ufork: schedule refused: line ");
     err.write(line.text())
+}
+
+/// Writes `ufork: input failed`, by one write.
+pub fn write_input_failed<E: Sink>(err: &mut E) -> Result<(), Failed>
+    ensures { PrintsText input_failed_line (E.state err.old) (E.state err.new) result }
+{
+    err.write(b"ufork: input failed\n")
+}
+
+/// Writes `ufork: input too long`, by one write.
+pub fn write_input_too_long<E: Sink>(err: &mut E) -> Result<(), Failed>
+    ensures { PrintsText input_too_long_line (E.state err.old) (E.state err.new) result }
+{
+    err.write(b"ufork: input too long\n")
 }
 
 /// Writes `ufork: image needs PAGES pages, FRAMES frames`, by one write.

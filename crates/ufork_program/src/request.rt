@@ -1,17 +1,19 @@
 // What is read, in order, before anything is written.
-ghost use Rattle.std.specs.Prelude.{◌≡◌, ◌<◌, ℕ, List, Some, IfSome, length, map, string_bytes};
+ghost use Rattle.std.specs.Prelude.{◌≡◌, ◌<◌, ℕ, List, Some, IfSome, MatchResult, length, map, string_bytes};
 ghost use Rattle.cap_format.specs.Numbers.{image_bytes};
 ghost use Rattle.cap_format.specs.Image.{fault_of};
 ghost use Rattle.outside_io.specs.Contents.{IsReadOf, HasFileCause};
 ghost use Rattle.ufork_program.specs.Answer.{word_at, named_by};
-ghost use Rattle.ufork_program.specs.Request.{ComesOf, HasFilesCause, IsUsable};
-ghost use Rattle.ufork_program.specs.Reading.{IsCommand, IsImageAt, IsScheduleFileAt, IsOptionRead, request_by, HasReadCause};
+ghost use Rattle.ufork_program.specs.Input.{TookAll};
+ghost use Rattle.ufork_program.specs.Request.{ComesOf, HasFilesCause, HasInputCause, IsUsable};
+ghost use Rattle.ufork_program.specs.Reading.{IsCommand, IsImageAt, IsScheduleFileAt, IsOptionRead, AreUsable, ComesOfFiles, IsInputStop, request_by, HasReadCause};
 
+use crate::input::{InputRefusal, read_input};
 use cap_format::{IMAGE_BYTES, ImageFault, ImageReason, long_files_are_none};
 use command_words::{Command, Options, read_words};
 use elf_loader::{Image, ImageRefusal, read_image};
 use machine_types::{Config, LIST_BYTES, Schedule};
-use outside_io::{FileRefusal, Files};
+use outside_io::{FileRefusal, Files, Source};
 use run_texts::{ScheduleRefusal, read_schedule};
 use std::alloc::Global;
 
@@ -26,17 +28,22 @@ pub enum CommandRefusal {
     NoImage(ImageFault),
     /// The schedule's text is no schedule, by this line.
     NoSchedule { line: u64 },
+    /// The console's input was not read.
+    InputFailed,
+    /// It has more bytes than it may have.
+    InputTooLong,
     /// The image has more pages than there are frames.
     NoFrames { pages: u32, frames: u32 },
 }
 
-/// What is run: an image, which was read from these bytes, by this configuration and schedule.
+/// What is run: an image, which was read from these bytes, with this console's input, by this configuration and schedule.
 #[derive(Drop)]
 pub struct Guest {
     pub config: Config,
     pub schedule: Schedule,
     pub image: Image,
     pub bytes: Vec<u8>,
+    pub input: Vec<u8>,
 }
 
 /// What is answered, by what was read.
@@ -57,6 +64,15 @@ enum Stop {
 // An image, and the bytes that it was read from.
 #[derive(Drop)]
 struct ImageFile {
+    image: Image,
+    bytes: Vec<u8>,
+}
+
+// What the files say that a command names.
+#[derive(Drop)]
+struct NamedFiles {
+    config: Config,
+    schedule: Schedule,
     image: Image,
     bytes: Vec<u8>,
 }
@@ -160,23 +176,66 @@ fn read_option<F: Files>(
     }
 }
 
-// Reads what a command names.
-fn read_guest<F: Files>(
+// Reads the files that a command names: the image's file, and the schedule's, where an option names one.
+fn read_files<F: Files>(
     alloc: Global,
     words: &[String],
     options: &Options,
     index: usize,
     files: &mut F,
-) -> Result<Guest, Stop>
+) -> Result<NamedFiles, Stop>
     requires { IsCommand (map string_bytes words.now) options.now index }
-    ensures usable { IsUsable (map string_bytes words.now) (request_by result) }
-    ensures comes { ComesOf (map string_bytes words.now) (F.state files.old).contents (request_by result) }
-    ensures files { HasFilesCause (map string_bytes words.now) (F.state files.old) (F.state files.new) (request_by result) }
+    ensures usable { AreUsable (map string_bytes words.now) result }
+    ensures comes { ComesOfFiles (map string_bytes words.now) (F.state files.old).contents result }
+    ensures cause { HasReadCause (map string_bytes words.now) (F.state files.old) (F.state files.new) result }
     ensures contents { (F.state files.new).contents ≡ (F.state files.old).contents }
 {
     let ImageFile { image, bytes } = read_image_file(alloc, words, index, files)?;
     let schedule = read_option(alloc, words, options, files)?;
-    let config = options.config;
+    Ok(NamedFiles {
+        config: options.config,
+        schedule,
+        image,
+        bytes,
+    })
+}
+
+// Reads the console's input.
+fn read_console<I: Source>(alloc: Global, input: &mut I) -> Result<Vec<u8>, Stop>
+    ensures { MatchResult result (λ bytes. TookAll bytes.items (I.state input.old) (I.state input.new)) (λ stop. IsInputStop (I.state input.old) (I.state input.new) stop) }
+{
+    match read_input(alloc, input) {
+        Ok(bytes) => Ok(bytes),
+        Err(InputRefusal::Failed) => Err(Stop::Refused(CommandRefusal::InputFailed)),
+        Err(InputRefusal::TooLong) => Err(Stop::Refused(CommandRefusal::InputTooLong)),
+        Err(InputRefusal::NoMemory) => Err(Stop::NoMemory),
+    }
+}
+
+// Reads what a command names, and then the console's input.
+fn read_guest<F: Files, I: Source>(
+    alloc: Global,
+    words: &[String],
+    options: &Options,
+    index: usize,
+    files: &mut F,
+    input: &mut I,
+) -> Result<Guest, Stop>
+    requires { IsCommand (map string_bytes words.now) options.now index }
+    ensures usable { IsUsable (map string_bytes words.now) (request_by result) }
+    ensures comes { ComesOf (map string_bytes words.now) (F.state files.old).contents (I.state input.old).left (request_by result) }
+    ensures files { HasFilesCause (map string_bytes words.now) (F.state files.old) (F.state files.new) (request_by result) }
+    ensures input { HasInputCause (I.state input.old) (I.state input.new) (request_by result) }
+    ensures contents { (F.state files.new).contents ≡ (F.state files.old).contents }
+{
+    let named = read_files(alloc, words, options, index, files)?;
+    let input = read_console(alloc, input)?;
+    let NamedFiles {
+        config,
+        schedule,
+        image,
+        bytes,
+    } = named;
     if image.pages > config.frames {
         return Err(Stop::Refused(CommandRefusal::NoFrames {
             pages: image.pages,
@@ -188,22 +247,29 @@ fn read_guest<F: Files>(
         schedule,
         image,
         bytes,
+        input,
     })
 }
 
-/// Reads the words, then the image's file, the image, the schedule's file and the schedule, and counts the frames. What stands later in
-/// this order is not asked for where something is refused.
-pub fn read_request<F: Files>(alloc: Global, words: &[String], files: &mut F) -> Request
+/// Reads the words, then the image's file, the image, the schedule's file, the schedule and the console's input, and counts the frames.
+/// What stands later in this order is not asked for where something is refused.
+pub fn read_request<F: Files, I: Source>(
+    alloc: Global,
+    words: &[String],
+    files: &mut F,
+    input: &mut I,
+) -> Request
     ensures usable { IsUsable (map string_bytes words.now) result }
-    ensures comes { ComesOf (map string_bytes words.now) (F.state files.old).contents result }
+    ensures comes { ComesOf (map string_bytes words.now) (F.state files.old).contents (I.state input.old).left result }
     ensures files { HasFilesCause (map string_bytes words.now) (F.state files.old) (F.state files.new) result }
+    ensures input { HasInputCause (I.state input.old) (I.state input.new) result }
     ensures contents { (F.state files.new).contents ≡ (F.state files.old).contents }
 {
     let (options, index) = match read_words(words) {
         Ok(Command::Run { options, image }) => (options, image),
         Err(fault) => return Request::Refused(CommandRefusal::Usage { place: fault.place }),
     };
-    match read_guest(alloc, words, &options, index, files) {
+    match read_guest(alloc, words, &options, index, files, input) {
         Ok(guest) => Request::Run(guest),
         Err(Stop::Refused(refusal)) => Request::Refused(refusal),
         Err(Stop::NoMemory) => Request::NoMemory,

@@ -7,13 +7,13 @@ ghost use Rattle.outside_io.specs.Answers.{Answers, write_fault};
 ghost use Rattle.outside_io.specs.Moments.{EndsAt};
 ghost use Rattle.stores.specs.Boards.{IsEmpty, made_frames};
 ghost use Rattle.ufork_program.specs.Run.{run_course};
-ghost use Rattle.ufork_program.specs.Request.{course_of, refusal_of, CanRun, IsUsable};
+ghost use Rattle.ufork_program.specs.Request.{course_of, refusal_of, setup_of, CanRun, IsUsable};
 ghost use Rattle.ufork_program.specs.Headline.{call, IsLeftOn, Went, Promises};
 
 use crate::kernel::Kernel;
 use crate::lines::{
-    write_cannot_read, write_frames_lacked, write_image_refused, write_schedule_refused,
-    write_usage,
+    write_cannot_read, write_frames_lacked, write_image_refused, write_input_failed,
+    write_input_too_long, write_schedule_refused, write_usage,
 };
 use crate::request::{CommandRefusal, Guest, Request, read_request};
 use crate::run::print_run;
@@ -56,6 +56,8 @@ fn refuse<O: Sink, E: Sink>(
         }
         CommandRefusal::NoImage(fault) => answered(4, write_image_refused(fault, err)),
         CommandRefusal::NoSchedule { line } => answered(5, write_schedule_refused(line, err)),
+        CommandRefusal::InputFailed => answered(6, write_input_failed(err)),
+        CommandRefusal::InputTooLong => answered(11, write_input_too_long(err)),
         CommandRefusal::NoFrames { pages, frames } => answered(
             12,
             write_frames_lacked(u64::from(pages), u64::from(frames), err),
@@ -68,7 +70,7 @@ fn run_guest<O: Sink, E: Sink>(guest: Guest, board: Board, out: &mut O, err: &mu
     requires can { CanRun guest }
     requires empty { IsEmpty board }
     requires made { made_frames board ≡ most_frames }
-    ensures { EndsAt (run_course guest.config guest.schedule guest.bytes.items) (IsLeftOn board result.board)
+    ensures { EndsAt (run_course (setup_of guest)) (IsLeftOn board result.board)
         (console (O.state out.old) (E.state err.old)) (console (O.state out.new) (E.state err.new)) result.status }
 {
     let Guest {
@@ -76,10 +78,18 @@ fn run_guest<O: Sink, E: Sink>(guest: Guest, board: Board, out: &mut O, err: &mu
         schedule,
         image,
         bytes,
+        input,
     } = guest;
     let mut board = board;
     board.set_frames(config.frames);
-    let mut kernel = Kernel::boot(config, schedule, &image, &bytes, FullSpace::new(board));
+    let mut kernel = Kernel::boot(
+        config,
+        schedule,
+        input,
+        &image,
+        &bytes,
+        FullSpace::new(board),
+    );
     let status = status_of(print_run(&mut kernel, config.steps, out, err));
     Ended {
         status,
@@ -127,7 +137,7 @@ fn read_and_write<F: Files, I: Source, O: Sink, E: Sink>(
     alloc: Global,
     words: &[String],
     files: &mut F,
-    input: &I,
+    input: &mut I,
     out: &mut O,
     err: &mut E,
     board: Board,
@@ -135,10 +145,10 @@ fn read_and_write<F: Files, I: Source, O: Sink, E: Sink>(
     requires empty { IsEmpty board }
     requires made { made_frames board ≡ most_frames }
     ensures { Went (call (map string_bytes words.now)
-        (outside (F.state files.old) (I.state input.now) (O.state out.old) (E.state err.old))
-        (outside (F.state files.new) (I.state input.now) (O.state out.new) (E.state err.new)) board result.board result.status) }
+        (outside (F.state files.old) (I.state input.old) (O.state out.old) (E.state err.old))
+        (outside (F.state files.new) (I.state input.new) (O.state out.new) (E.state err.new)) board result.board result.status) }
 {
-    let request = read_request(alloc, words, files);
+    let request = read_request(alloc, words, files, input);
     answer_request(words, request, board, out, err)
 }
 
@@ -152,7 +162,8 @@ fn read_and_write<F: Files, I: Source, O: Sink, E: Sink>(
 /// end, and empty where nothing was run.
 ///
 /// What is refused is told in this order, and what stands later in it is not asked for: the words, the image's file, the image, the
-/// schedule's file, the schedule, the frames.
+/// schedule's file, the schedule, the console's input, its length, the frames. The input is read whole before the first instruction, in
+/// pieces of at most 4096 bytes; of one that is too long, 1048577 bytes are taken.
 ///
 /// | Status | When | What `err` gains |
 /// |---|---|---|
@@ -161,12 +172,14 @@ fn read_and_write<F: Files, I: Source, O: Sink, E: Sink>(
 /// | 3 | a file was not read: its count of faults rose | `ufork: cannot read NAME` |
 /// | 4 | the image's file is no image | `ufork: image refused: REASON at PLACE` |
 /// | 5 | the schedule's text is none | `ufork: schedule refused: line LINE` |
+/// | 6 | the input was not read: its count of faults rose | `ufork: input failed` |
 /// | 7 | a write failed: the count of `out` or of `err` rose | what came before it |
 /// | 8 | the process is live after the configured steps | `stopped STEPS` |
-/// | 10 | memory was wanted for a file or for what was read of it | nothing |
+/// | 10 | memory was wanted for a file, for what was read of it, or for the input | nothing |
+/// | 11 | the input has over 1048576 bytes | `ufork: input too long` |
 /// | 12 | the image has more pages than there are frames | `ufork: image needs PAGES pages, FRAMES frames` |
 ///
-/// The input is left as it was. Each sentence of the contract is a field of `Promises`, in specs/Headline.antt.
+/// Each sentence of the contract is a field of `Promises`, in specs/Headline.antt.
 pub fn ufork<F: Files, I: Source, O: Sink, E: Sink>(
     alloc: Global,
     words: &[String],

@@ -17,6 +17,8 @@ mod commands;
 #[cfg(test)]
 mod console;
 #[cfg(test)]
+mod console_input;
+#[cfg(test)]
 mod cut_lines;
 #[cfg(test)]
 mod files;

@@ -219,3 +219,29 @@ fn an_output_that_takes_a_part_has_the_bytes_up_to_there(rt: HostRuntime) -> Res
     }
     Ok(())
 }
+
+#[test]
+fn a_long_write_may_be_stopped_between_its_pieces(rt: HostRuntime) -> Result<(), Fail> {
+    // The write is the eighth step to the tenth, each with one piece.
+    let data = data(rt.alloc())?;
+    let code = one_write(rt.alloc(), (1, 0), COUNT)?;
+    let file = with_data(rt.alloc(), &code, &data)?;
+    let rows: [(&'static str, u8, usize, &'static [u8]); 6] = [
+        ("run --steps 7 guest", 8, 0, b"stopped 7\n"),
+        ("run --steps 8 guest", 8, 4096, b"stopped 8\n"),
+        ("run --steps 9 guest", 8, 8192, b"stopped 9\n"),
+        ("run --steps 10 guest", 8, 10000, b"stopped 10\n"),
+        ("run --steps 11 guest", 8, 10000, b"stopped 11\n"),
+        ("run --steps 12 guest", 0, 10000, b"exit 1 16\ndone 12\n"),
+    ];
+    for (words, status, printed, err) in rows {
+        let given = Given { words, ..LONG };
+        let ran = run_file(rt.alloc(), &file, given)?;
+        assert_eq!(rt; ran.status, status, "{words}");
+        assert_eq!(rt; ran.out.bytes(), slice(&data, 0, printed)?, "{words}");
+        assert_eq!(rt; ran.err.bytes(), err, "{words}");
+        let used = if status == 8 { 4 } else { 0 };
+        assert_eq!(rt; ran.board.pool.used(), used, "{words}");
+    }
+    Ok(())
+}

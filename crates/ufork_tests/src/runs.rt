@@ -18,6 +18,12 @@ pub struct Given<'a> {
     pub schedule: &'a [u8],
     /// The read of a file that fails, from 0.
     pub file_fails: Option<u64>,
+    /// The bytes of the console's input.
+    pub input: &'a [u8],
+    /// The most bytes that a read of it gives.
+    pub input_piece: usize,
+    /// The read of it that fails, from 0.
+    pub input_fails: Option<u64>,
     /// The write to the output that fails, from 0.
     pub out_fails: Option<u64>,
     /// The room of the output.
@@ -33,6 +39,9 @@ pub const RUN: Given<'static> = Given {
     words: "run guest",
     schedule: b"",
     file_fails: None,
+    input: b"",
+    input_piece: 4096,
+    input_fails: None,
     out_fails: None,
     out_room: 4096,
     err_fails: None,
@@ -77,10 +86,19 @@ fn files(alloc: Global, guest: &[u8], given: Given<'_>) -> Result<MemoryFiles, F
     Ok(MemoryFiles::new(entries, calls(alloc, given.file_fails)?))
 }
 
+// The console's input.
+fn input(alloc: Global, given: Given<'_>) -> Result<MemorySource, Fail> {
+    let mut bytes = Vec::new(alloc);
+    bytes.extend_from_slice(given.input)?;
+    let piece = given.input_piece.max(1);
+    Ok(MemorySource::new(bytes, piece, calls(alloc, given.input_fails)?))
+}
+
 /// How a run ended.
 #[derive(Drop)]
 pub struct Ran {
     pub status: u8,
+    pub input: MemorySource,
     pub out: MemorySink,
     pub err: MemorySink,
     pub board: Board,
@@ -90,7 +108,7 @@ pub struct Ran {
 pub fn run_file(alloc: Global, guest: &[u8], given: Given<'_>) -> Result<Ran, Fail> {
     let words = words(alloc, given.words)?;
     let mut files = files(alloc, guest, given)?;
-    let mut input = MemorySource::new(Vec::new(alloc), 1, Vec::new(alloc));
+    let mut input = input(alloc, given)?;
     let mut out = MemorySink::new(alloc, given.out_room, calls(alloc, given.out_fails)?)?;
     let mut err = MemorySink::new(alloc, given.err_room, calls(alloc, given.err_fails)?)?;
     let board = Board::new(alloc, MOST_FRAMES as u32)?;
@@ -99,6 +117,7 @@ pub fn run_file(alloc: Global, guest: &[u8], given: Given<'_>) -> Result<Ran, Fa
     );
     Ok(Ran {
         status,
+        input,
         out,
         err,
         board,

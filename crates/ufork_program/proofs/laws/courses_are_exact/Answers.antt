@@ -1,4 +1,5 @@
-use Rattle.ufork_program.proofs.CourseLemmas.{words_lead, unread_leads, no_image_leads, no_text_leads, no_schedule_leads, no_frames_lead, run_leads}
+use Rattle.std.proofs.Common.{arith}
+use Rattle.ufork_program.proofs.CourseLemmas.{words_lead, unread_leads, no_image_leads, no_text_leads, no_schedule_leads, long_leads, no_frames_lead, run_leads}
 use Rattle.ufork_program.proofs.laws.courses_are_exact.Goals as goal
 
 pub returns : goal.returns
@@ -8,6 +9,8 @@ returns g = record {
   image = no_image_leads;
   no_text = no_text_leads;
   schedule = no_schedule_leads;
+  long = λ words sources config schedule file names longer.
+      long_leads words sources (record { reads = record { config = config; schedule = schedule; file = file; names = names }; longer = omega arith });
   frames = no_frames_lead;
-  run = run_leads;
+  run = λ words sources setup names input_is few room. run_leads words sources setup (record { names = names; input_is = input_is; fits = rw input_is few }) room;
 }

@@ -1,27 +1,22 @@
 use Rattle.std.proofs.Common.{refl}
 use Rattle.std.proofs.lemmas.Result.{err_from_is_err_and}
-use Rattle.ufork_program.proofs.RequestLemmas.{image_stop_comes, option_stop_comes, run_comes, too_many_come}
+use Rattle.ufork_program.proofs.SourceLemmas.{files_stop_comes, input_stop_comes, run_comes, too_many_come}
 use Rattle.ufork_program.proofs.request.read_guest.Goals as goal
 
-pub returns-in_err-image-clause-comes : goal.returns-in_err-image-clause-comes
-returns-in_err-image-clause-comes g c =
+pub returns-in_err-named-clause-comes : goal.returns-in_err-named-clause-comes
+returns-in_err-named-clause-comes g c =
     let p = err_from_is_err_and c.from_residual.result c.from_residual.ensures.1 in
-    rw (p.1, p.2) (image_stop_comes _ _ c.args.options.now c.args.index c.requires c.in_err-image.field-0.0 c.in_err-image.ensures.is)
+    rw (p.1, p.2) (files_stop_comes _ _ _ c.in_err-named.field-0.0 c.in_err-named.ensures.comes)
 
-pub returns-in_err-schedule-clause-comes : goal.returns-in_err-schedule-clause-comes
-returns-in_err-schedule-clause-comes g c =
-    let p = err_from_is_err_and c.from_residual-in_err-schedule.result c.from_residual-in_err-schedule.ensures.1 in
-    let h = rw c.read_image_file.ensures.contents at c.in_err-schedule.ensures.is in
-    rw (p.1, p.2) (option_stop_comes _ _ c.args.options.now c.args.index c.requires _ c.in_ok-image.ensures.is.1 c.in_ok-image.ensures.is.0.0 c.in_err-schedule.field-0.0 h)
+pub returns-in_err-input-clause-comes : goal.returns-in_err-input-clause-comes
+returns-in_err-input-clause-comes g c =
+    let p = err_from_is_err_and c.from_residual-in_err-input.result c.from_residual-in_err-input.ensures.1 in
+    rw (p.1, p.2) (input_stop_comes _ _ _ _ _ c.in_ok-named.ensures.comes c.in_err-input.field-0.0 c.in_err-input.ensures)
 
 pub returns-then-image-config-clause-comes : goal.returns-then-image-config-clause-comes
 returns-then-image-config-clause-comes g c =
-    let found = c.in_ok-image.ensures.is in
-    let h = rw c.read_image_file.ensures.contents at c.in_ok-schedule.ensures.is in
-    too_many_come _ _ c.args.options.now c.args.index c.requires _ found.1 found.0.0 _ _ _ (cc (found.0.1)) refl c.if-image-config.true h
+    let named = c.in_ok-named.ensures in
+    too_many_come _ _ _ _ _ named.comes _ c.in_ok-input.ensures _ _ (cc (named.usable.read.1)) refl c.if-image-config.true
 
 pub returns-clause-comes : goal.returns-clause-comes
-returns-clause-comes g c =
-    let found = c.in_ok-image.ensures.is in
-    let h = rw c.read_image_file.ensures.contents at c.in_ok-schedule.ensures.is in
-    run_comes _ _ c.args.options.now c.args.index c.requires _ found.1 found.0.0 _ refl refl h
+returns-clause-comes g c = run_comes _ _ _ _ _ c.in_ok-named.ensures.comes _ c.in_ok-input.ensures _ refl

@@ -1,7 +1,7 @@
 use Rattle.std.proofs.Common.{◌≡◌, ◌<◌, ◌∙◌, sym, ap, map, length, [], string_bytes, arith}
 use Rattle.std.proofs.lemmas.List.{get_or-map, length-map}
 use Rattle.ufork_program.specs.Answer.{word_at}
-use Rattle.ufork_program.specs.Lines.{usage_line, cannot_read_line, image_refused_line, schedule_refused_line, frames_lacked_line}
+use Rattle.ufork_program.specs.Lines.{usage_line, cannot_read_line, image_refused_line, schedule_refused_line, input_failed_line, input_too_long_line, frames_lacked_line}
 use Rattle.ufork_program.proofs.LeftLemmas.{line_answered}
 use Rattle.ufork_program.proofs.top.refuse.Goals as goal
 
@@ -24,6 +24,14 @@ returns-in-NoImage g c =
 pub returns-in-NoSchedule : goal.returns-in-NoSchedule
 returns-in-NoSchedule g c =
     rw c.in-NoSchedule.is (line_answered _ (schedule_refused_line c.in-NoSchedule.line) _ _ _ _ _ (λ e. cc) c.write_schedule_refused.ensures c.answered-in-NoSchedule.ensures)
+
+pub returns-in-InputFailed : goal.returns-in-InputFailed
+returns-in-InputFailed g c =
+    rw c.in-InputFailed.is (line_answered _ input_failed_line _ _ _ _ _ (λ e. cc) c.write_input_failed.ensures c.answered-in-InputFailed.ensures)
+
+pub returns-in-InputTooLong : goal.returns-in-InputTooLong
+returns-in-InputTooLong g c =
+    rw c.in-InputTooLong.is (line_answered _ input_too_long_line _ _ _ _ _ (λ e. cc) c.write_input_too_long.ensures c.answered-in-InputTooLong.ensures)
 
 pub returns-in-NoFrames : goal.returns-in-NoFrames
 returns-in-NoFrames g c =

@@ -22,7 +22,7 @@ pub returns-clause-sound : goal.returns-clause-sound
 returns-clause-sound g c = ∥∥₁_map c.requires.fresh (λ (known : StandsFor g.S.Stores.stands_for c.args.space (IsFresh c.args.config)).
     let file = c.args.bytes.now in
     let begun = c.in-Ok.ensures.started known.content known.stands in
-    boots g.S.Stores.stands_for (record { config = c.args.config; schedule = c.args.schedule; regs = c.in-Ok.field-0.regs; pcc = c.in-Ok.field-0.pcc; space = c.start.new.space; writing = None; live = true; steps = 0; piece = c.new.result })
+    boots g.S.Stores.stands_for (record { config = c.args.config; schedule = c.args.schedule; input = c.args.input; regs = c.in-Ok.field-0.regs; pcc = c.in-Ok.field-0.pcc; space = c.start.new.space; writing = None; live = true; steps = 0; piece = c.new.result })
     file c.args.image.now known.content c.requires.read begun.1 begun.2 refl refl
     (start-ready c.starts_may_run.ensures file (started file (image_of file) known.content) c.requires.read.0
     (g.met.S.Stores.is_whole c.start.new.space (started file (image_of file) known.content) (rw c.requires.read.1 at begun.2)) (c.starts_are_exact.ensures.store file known.content)))
