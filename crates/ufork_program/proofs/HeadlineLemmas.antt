@@ -57,7 +57,7 @@ module _ (c : Call) where
 
   -- the input that failed is one that the words ask for
   broke : WentBy c (Refused InputFailed) → InputBroke c
-  broke by = record { read = request-told c (Refused InputFailed) (λ sources. ReadsInput c.words sources.files) by by.comes.is; took = by.input_cause }
+  broke by = record { read = request-told c (Refused InputFailed) (λ sources. ReadsInput c.words sources.files) by by.comes.is; took = by.input_cause; kept = by.files_cause }
 
   -- a guest was run whole
   ran_by : (live : Bool) (guest : Guest) → (end_of guest).live ≡ live → WentBy c (Run guest) → WentWhole c (course_of c.words (Run guest)) → Ran live c

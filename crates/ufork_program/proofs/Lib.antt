@@ -17,3 +17,4 @@ pub mod BeginLemmas
 pub mod SplitLemmas
 pub mod StepMoments
 pub mod TellingLemmas
+pub mod CutTellings

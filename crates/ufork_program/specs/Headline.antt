@@ -107,6 +107,7 @@ pub record LineCut (call : Call) : Type 0 where
 pub record InputBroke (call : Call) : Type 0 where
   pub read : OfSources call (λ sources. ReadsInput call.words sources.files)
   pub took : TookUntilFault call.old.input call.new.input
+  pub kept : call.new.files ≡ call.old.files
 
 -- the input failed, its line alone was written, and nothing was run
 pub record TellsOfInput (call : Call) : Type 0 where

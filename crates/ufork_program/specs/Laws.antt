@@ -1,5 +1,5 @@
 -- What the calls come to, in numbers, and the courses that aren't runs: each is the contract of a function of this crate.
-use Rattle.std.specs.Prelude.{◌≡◌, ◌≢◌, ℕ, ◌+◌, ◌-◌, ◌^◌, ◌%◌, ◌<◌, ◌≤◌, min, IsTrue, IsFalse, List, [], length, Some, None, Result, Ok, Err}
+use Rattle.std.specs.Prelude.{◌≡◌, ◌≢◌, ℕ, ◌+◌, ◌-◌, ◌^◌, ◌%◌, ◌<◌, ◌≤◌, min, IsTrue, IsFalse, List, [], ◌∷◌, length, Some, None, Result, Ok, Err}
 use Rattle.cap_format.specs.declared.cap.Cap.{Cap}
 use Rattle.machine_types.specs.declared.touches.Note.{Note}
 use Rattle.machine_types.specs.declared.touches.NoFrame.{NoFrame}
@@ -13,15 +13,20 @@ use Rattle.elf_loader.specs.Loaded.{image_of}
 use Rattle.command_words.specs.declared.words.Options.{Options}
 use Rattle.command_words.specs.declared.words.Command.TheVariants.{Run}
 use Rattle.command_words.specs.Commands.{read_of}
+use Rattle.std.specs.Prelude.{slice_index_or}
+use Rattle.std.specs.declared.option.Option.{Option}
+use Rattle.cap_format.specs.Image.{IsImage, fault_of}
+use Rattle.run_texts.specs.Schedules.{schedule_of}
 use Rattle.ufork_program.specs.declared.calls.Called.{Called}
 use Rattle.ufork_program.specs.declared.calls.Called.TheVariants.{Answered, Writing, Ended}
 use Rattle.elf_loader.specs.Numbers.{process_region}
 use Rattle.ufork_program.specs.Machine.{Setup}
 use Rattle.ufork_program.specs.Lines.{usage_line, cannot_read_line, image_refused_line, schedule_refused_line, input_too_long_line, frames_lacked_line}
 use Rattle.outside_io.specs.Answers.{refusal}
+use Rattle.outside_io.specs.Parts.{err_part}
 use Rattle.ufork_program.specs.Calls.{CallEffect, answers, integer, place_of, is_readable, call_effect}
 use Rattle.ufork_program.specs.Run.{run_course}
-use Rattle.ufork_program.specs.Answer.{word_at, Sources, course, refused}
+use Rattle.ufork_program.specs.Answer.{word_at, named_by, Sources, course, refused}
 use Rattle.ufork_program.specs.Request.{NamesImage, NamesNoImage, NamesNoSchedule, NamesFiles, NamesTooMany}
 
 -- the touches of the next transfer of a write, of so many bytes
@@ -73,3 +78,13 @@ pub record CoursesAreExact : Type 0 where
   pub frames : (words : List (List ℕ)) (sources : Sources) (pages frames : ℕ) → NamesTooMany words sources pages frames → course words sources ≡ refused (refusal 12 (frames_lacked_line pages frames))
   pub run : (words : List (List ℕ)) (sources : Sources) (setup : Setup) → NamesFiles words sources.files setup.config setup.schedule setup.file → setup.input ≡ sources.input
       → length sources.input ≤ 1048576 → (image_of setup.file).pages ≤ setup.config.frames → course words sources ≡ run_course setup
+  pub line : (status : ℕ) (line : List ℕ) → refused (refusal status line) ≡ record { status = status; moments = (err_part line, None) ∷ []; end = None }
+  pub named : (words : List (List ℕ)) (contents : List ℕ → Option (List ℕ)) (index : ℕ) → named_by words contents index ≡ contents (slice_index_or words index [])
+  pub wrong_line : (words : List (List ℕ)) (sources : Sources) (options : Options) (image index line : ℕ) (file text : List ℕ) → read_of words ≡ Ok (Run options image)
+      → sources.files image ≡ Some file → IsImage file → options.schedule ≡ Some index → sources.files index ≡ Some text → schedule_of text ≡ Err line
+      → course words sources ≡ refused (refusal 5 (schedule_refused_line line))
+  pub wrong_image : (words : List (List ℕ)) (sources : Sources) (options : Options) (image : ℕ) (file : List ℕ) (fault : ImageFault) → read_of words ≡ Ok (Run options image)
+      → sources.files image ≡ Some file → fault_of file ≡ Some fault → course words sources ≡ refused (refusal 4 (image_refused_line fault))
+  pub few_frames : (words : List (List ℕ)) (sources : Sources) (setup : Setup) → NamesFiles words sources.files setup.config setup.schedule setup.file → setup.input ≡ sources.input
+      → length sources.input ≤ 1048576 → setup.config.frames < (image_of setup.file).pages
+      → course words sources ≡ refused (refusal 12 (frames_lacked_line (image_of setup.file).pages setup.config.frames))

@@ -13,3 +13,5 @@ pub mod Headline
 pub mod Laws
 pub mod StepLaws
 pub mod Telling
+pub mod Cutting
+pub mod Saying

@@ -1,20 +1,23 @@
 -- What follows from what a call promises, where the contents of files and the bytes of the input are told: a second meaning of the promise.
-use Rattle.std.specs.Prelude.{◌≡◌, ℕ, ◌+◌, ◌<◌, ◌≤◌, ◌⊎◌, Bool, true, false, List, [], ◌∷◌, ◌++◌, length, Some}
+use Rattle.std.specs.Prelude.{◌≡◌, ℕ, ◌+◌, ◌≤◌, ◌≢◌, ◌⊎◌, Bool, Ok, true, false, List, [], ◌++◌, length, Some}
 use Rattle.std.specs.declared.option.Option.{Option}
 use Rattle.outside_io.specs.Faults.{Rose}
-use Rattle.outside_io.specs.States.{CountsBelowLast, NoneRose}
-use Rattle.outside_io.specs.Parts.{Part, err_part, HasBytes, RoseAt, front_of, console_of, Written}
-use Rattle.outside_io.specs.Answers.{Answer, write_fault, memory_wanted}
+use Rattle.outside_io.specs.States.{NoneRose}
+use Rattle.outside_io.specs.Parts.{console_of, Written}
+use Rattle.outside_io.specs.Answers.{Answer, memory_wanted}
 use Rattle.outside_io.specs.Moments.{parts_of}
-use Rattle.stores.specs.Boards.{IsEmpty, Stands}
+use Rattle.stores.specs.Boards.{Stands}
 use Rattle.cap_format.specs.declared.image.ImageFault.{ImageFault}
 use Rattle.elf_loader.specs.Loaded.{image_of}
+use Rattle.machine_types.specs.declared.config.Config.{Config}
+use Rattle.command_words.specs.declared.words.Options.{Options}
+use Rattle.command_words.specs.declared.words.Command.TheVariants as command
+use Rattle.command_words.specs.Commands.{read_of}
 use Rattle.ufork_program.specs.Numbers.{most_input}
-use Rattle.ufork_program.specs.Machine.{Machine, Setup, start}
-use Rattle.ufork_program.specs.Steps.{step_parts}
-use Rattle.ufork_program.specs.Run.{run_moments, run_end, status_at, last_line, run_course, state_after, moments_of}
+use Rattle.ufork_program.specs.Machine.{Setup, start}
+use Rattle.ufork_program.specs.Run.{run_end, status_at, run_course}
 use Rattle.ufork_program.specs.Answer.{word_at, named_by, Sources, course, refused}
-use Rattle.ufork_program.specs.Request.{NamesNoImage, NamesNoSchedule, NamesTooMany, NamesGuest, ReadsInput, HasLongInput, IsReadAt}
+use Rattle.ufork_program.specs.Request.{NamesFiles, NamesImage, NamesNoImage, NamesNoSchedule, NamesTooMany, NamesGuest, ReadsInput, HasLongInput, IsReadAt}
 use Rattle.ufork_program.specs.Headline.{Call, Promises}
 
 -- the contents of the files that the words name are told, and the bytes that the input has left
@@ -62,33 +65,30 @@ pub record TookThere (call : Call) (sources : Sources) : Type 0 where
   pub number : length taken ≡ most_input + 1
   pub left : call.new.input.left ≡ Some rest
 
--- A part of a step was cut: the parts of the steps before it are written, the parts of the step before the cut one, and a prefix of that
--- one, and the count of its sink rose. The board stands for the machine after the step.
-pub record CutInStep (call : Call) (m : Machine) (limit : ℕ) : Type 0 where
-  pub steps : ℕ
-  pub within : steps < limit
-  pub live : (state_after m steps).live ≡ true
-  pub before : List Part
-  pub part : Part
-  pub after : List Part
-  pub parts : step_parts (state_after m steps) ≡ before ++ part ∷ after
-  pub some : HasBytes part
-  pub rose : RoseAt part (console_of call.old) (console_of call.new)
-  pub count : ℕ
-  pub written : Written ((parts_of (moments_of m steps) ++ before) ++ front_of count part ∷ []) (console_of call.old) (console_of call.new)
-  pub stands : Stands call.left (state_after m (steps + 1)).content
+-- The status is that of the course by what is told, and its parts are written.
+pub record IsByCourse (call : Call) (sources : Sources) : Type 0 where
+  pub status : call.status ≡ (course call.words sources).status
+  pub written : Written (parts_of (course call.words sources).moments) (console_of call.old) (console_of call.new)
 
--- The last line was cut: all parts of the steps are written, and a prefix of the line, and the count of the errors rose. The board stands for the machine at the end.
-pub record CutAtLastLine (call : Call) (m : Machine) (limit : ℕ) : Type 0 where
-  pub rose : Rose call.old.err.faults call.new.err.faults
-  pub count : ℕ
-  pub written : Written (parts_of (run_moments m limit) ++ front_of count (err_part (last_line (run_end m limit))) ∷ []) (console_of call.old) (console_of call.new)
-  pub stands : Stands call.left (run_end m limit).content
+-- The words name an image and, if at all, a schedule, by what is told.
+pub record NamedThere (call : Call) (sources : Sources) : Type 0 where
+  pub config : Config
+  pub schedule : List (ℕ × ℕ)
+  pub file : List ℕ
+  pub names : NamesFiles call.words sources.files config schedule file
+
+-- The file that failed last is the image's, or the schedule's, where what is told of the image's is an image.
+pub record FailedAt (call : Call) (sources : Sources) : Type 0 where
+  pub options : Options
+  pub image : ℕ
+  pub index : ℕ
+  pub command : read_of call.words ≡ Ok (command.Run options image)
+  pub last : call.new.files.failed_last ≡ Some (word_at call.words index)
+  pub which : (index ≡ image) ⊎ ((options.schedule ≡ Some index) × (file : List ℕ) × NamesImage call.words sources.files options file)
 
 -- What a promise tells: with 0 and 8 what is told was run, with 3 and 6 a file or the input failed, and with 4, 5, 11 and 12 it is what was
--- refused. With 7 the board comes back empty where a refusal's line was cut, and else stands for the machine of the moment, and the input
--- was read to its end. Where nothing is refused and no count rose, it was run; where something is refused, the status is that of the
--- refusal; or memory was wanted.
+-- refused. Where nothing is refused and no count rose, it was run; where something is refused, the status is that of the refusal; or memory
+-- was wanted. The input is as it was, unless the words name an image and a schedule.
 pub record PromisesTell : Type 0 where
   pub done : (call : Call) (sources : Sources) → Promises call → Tells call sources → call.status ≡ 0 → RanThem false call sources
   pub stopped : (call : Call) (sources : Sources) → Promises call → Tells call sources → call.status ≡ 8 → RanThem true call sources
@@ -101,23 +101,14 @@ pub record PromisesTell : Type 0 where
   pub too_long : (call : Call) (sources : Sources) → Promises call → Tells call sources → call.status ≡ 11 → TookThere call sources
   pub no_frames : (call : Call) (sources : Sources) → Promises call → Tells call sources → call.status ≡ 12
       → (pages : ℕ) × (frames : ℕ) × NamesTooMany call.words sources pages frames × (call.new.input.left ≡ Some [])
-  pub cut_refusal : (call : Call) (sources : Sources) (answer : Answer) → Promises call → Tells call sources
-      → course call.words sources ≡ refused answer → call.status ≡ write_fault → (call.left ≡ call.given) × IsEmpty call.left
-  pub cut_run : (call : Call) (sources : Sources) (setup : Setup) → Promises call → Tells call sources
-      → course call.words sources ≡ run_course setup → CountsBelowLast call.old → call.new.files.faults ≡ call.old.files.faults
-      → call.new.input.faults ≡ call.old.input.faults → call.status ≡ write_fault
-      → CutInStep call (start setup) setup.config.steps ⊎ CutAtLastLine call (start setup) setup.config.steps
-  pub cut_read : (call : Call) (sources : Sources) (setup : Setup) → Promises call → Tells call sources → NamesGuest call.words sources setup
-      → CountsBelowLast call.old → call.new.files.faults ≡ call.old.files.faults → call.new.input.faults ≡ call.old.input.faults
-      → call.status ≡ write_fault → call.new.input.left ≡ Some []
-  pub cut_file : (call : Call) → Promises call → CountsBelowLast call.old → Rose call.old.files.faults call.new.files.faults
-      → call.status ≡ write_fault → (call.left ≡ call.given) × IsEmpty call.left
-  pub cut_input : (call : Call) → Promises call → CountsBelowLast call.old → Rose call.old.input.faults call.new.input.faults
-      → call.status ≡ write_fault → (call.left ≡ call.given) × IsEmpty call.left
   pub complete : (call : Call) (sources : Sources) (setup : Setup) → Promises call → Tells call sources → NoneRose call.old call.new
       → NamesGuest call.words sources setup → (image_of setup.file).pages ≤ setup.config.frames
       → (call.status ≡ status_at (run_end (start setup) setup.config.steps)) ⊎ (call.status ≡ memory_wanted.status)
   pub refuses : (call : Call) (sources : Sources) (answer : Answer) → Promises call → Tells call sources → NoneRose call.old call.new
       → course call.words sources ≡ refused answer → (call.status ≡ answer.status) ⊎ (call.status ≡ memory_wanted.status)
+  pub by_course : (call : Call) (sources : Sources) → Promises call → Tells call sources → NoneRose call.old call.new → call.status ≢ 10 → IsByCourse call sources
   pub unasked : (call : Call) (sources : Sources) → Promises call → Tells call sources → (ReadsInput call.words sources.files → ⊥)
       → call.new.input ≡ call.old.input
+  pub asked : (call : Call) (sources : Sources) → Promises call → Tells call sources → (call.new.input ≡ call.old.input) ⊎ NamedThere call sources
+  pub broke_after : (call : Call) (sources : Sources) → Promises call → Tells call sources → call.status ≡ 6 → NamedThere call sources
+  pub failed_at : (call : Call) (sources : Sources) → Promises call → Tells call sources → call.status ≡ 3 → FailedAt call sources

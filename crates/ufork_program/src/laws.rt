@@ -5,6 +5,8 @@ ghost use Rattle.ufork_program.specs.Run.{RunsEndAtTheLeast};
 ghost use Rattle.ufork_program.specs.Laws.{CallsAreExact, CoursesAreExact};
 ghost use Rattle.ufork_program.specs.StepLaws.{MachinesAreExact};
 ghost use Rattle.ufork_program.specs.Telling.{PromisesTell};
+ghost use Rattle.ufork_program.specs.Cutting.{CutsTell};
+ghost use Rattle.ufork_program.specs.Saying.{PromisesSay};
 
 use cheri_step::{effects_keep_running, faults_change_nothing};
 use contents::{calls_keep_whole, other_stores_stay, regions_are_kept};
@@ -57,10 +59,20 @@ pub fn machines_are_exact()
     calls_keep_whole();
 }
 
-/// What a call's promise comes to where the contents of files and the bytes of the input are told: what was run, refused or failed, and
-/// what a cut run leaves.
+/// What a call's promise comes to where the contents of files and the bytes of the input are told: what was run, what was refused, and
+/// what failed.
 pub fn promises_tell()
     ensures { PromisesTell }
+{}
+
+/// What it comes to where a part was cut: which part of which step or line it is, and which board comes back.
+pub fn cuts_tell()
+    ensures { CutsTell }
 {
     runs_end_at_the_least();
 }
+
+/// What it says of the status, the bytes and the board whatever is told.
+pub fn promises_say()
+    ensures { PromisesSay }
+{}

@@ -16,7 +16,7 @@ mod run;
 mod top;
 
 pub use laws::{
-    calls_are_exact, calls_leave_stores, constants_are_fixed, courses_are_exact,
-    machines_are_exact, promises_tell, runs_end_at_the_least, steps_stay_sound,
+    calls_are_exact, calls_leave_stores, constants_are_fixed, courses_are_exact, cuts_tell,
+    machines_are_exact, promises_say, promises_tell, runs_end_at_the_least, steps_stay_sound,
 };
 pub use top::{Ended, ufork};

@@ -1,8 +1,8 @@
-use Rattle.std.proofs.Common.{true, false}
+use Rattle.std.proofs.Common.{true, false, inl, inr}
 use Rattle.ufork_program.specs.Run.{run_course}
 use Rattle.ufork_program.specs.Answer.{refused}
 use Rattle.ufork_program.proofs.CourseLemmas.{run_leads}
-use Rattle.ufork_program.proofs.TellingLemmas.{told-holds, ran-told, failed-told, broke-told, long-told, frames-told, refusal-told, status-told, input-told, run-told, cut-read, cut-file, cut-input}
+use Rattle.ufork_program.proofs.TellingLemmas.{told-holds, ran-told, failed-told, broke-told, long-told, frames-told, status-told, input-told, named-there, failed-at}
 use Rattle.ufork_program.proofs.laws.promises_tell.Goals as goal
 
 pub returns : goal.returns
@@ -15,14 +15,18 @@ returns c = record {
   no_schedule = λ call sources promises told is. let h = promises.schedule_refused is in (h.line, told-holds call sources _ told h.named);
   too_long = λ call sources promises told is. long-told call sources told (promises.input_too_long is);
   no_frames = λ call sources promises told is. frames-told call sources told (promises.frames_lacked is);
-  cut_refusal = λ call sources answer promises told leads is. refusal-told call sources told answer leads (promises.cut_short is);
-  cut_run = λ call sources setup promises told leads below kept unbroken is.
-      run-told call sources told c.runs_end_at_the_least.ensures setup leads below kept unbroken (promises.cut_short is);
-  cut_read = λ call sources setup promises told named below kept unbroken is. cut-read call sources told setup named below kept unbroken (promises.cut_short is);
-  cut_file = λ call promises below rose is. cut-file call below rose (promises.cut_short is);
-  cut_input = λ call promises below rose is. cut-input call below rose (promises.cut_short is);
   complete = λ call sources setup promises told none named room.
       status-told call sources told (run_course setup) promises none (run_leads call.words sources setup named room);
   refuses = λ call sources answer promises told none leads. status-told call sources told (refused answer) promises none leads;
+  by_course = λ call sources promises told none other. elim (promises.answered none) [
+    | inl h ↦ let w = told-holds call sources _ told h in record { status = w.status; written = w.written }
+    | inr h ↦ absurd (other h.whole.status)
+  ];
   unasked = λ call sources promises told never. input-told call sources told promises never;
+  asked = λ call sources promises told. elim promises.input_kept [
+    | inl h ↦ inl h
+    | inr h ↦ let r = told-holds call sources _ told h in inr (named-there call sources told r)
+  ];
+  broke_after = λ call sources promises told is. named-there call sources told (told-holds call sources _ told (promises.input_failed is).broke.read);
+  failed_at = λ call sources promises told is. failed-at call sources told (promises.file_failed is);
 }
