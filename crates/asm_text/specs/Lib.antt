@@ -1,0 +1,12 @@
+pub mod Numbers
+pub mod Bytes
+pub mod Tokens
+pub mod Scanning
+pub mod Lines
+pub mod Mnemonics
+pub mod Statements
+pub mod Source
+pub mod Cursors
+pub mod Spans
+pub mod Laws
+pub mod Examples
