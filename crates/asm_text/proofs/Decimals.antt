@@ -9,7 +9,7 @@ use Rattle.std.proofs.lemmas.Bool.Decides.{nat_tests}
 use Rattle.std.proofs.lemmas.Str.{digit_value_digit}
 use Rattle.std.proofs.lemmas.Fmt.{decimal_is_IsNumeral_wide}
 use Rattle.asm_text.specs.declared.tokens.Token.TheVariants.{Number}
-use Rattle.asm_text.specs.Bytes.{is_digit, begins_word, are}
+use Rattle.asm_text.specs.Bytes.{is_digit, begins_word, are, are_some}
 use Rattle.asm_text.specs.Tokens.{digit_of, digits_behind, is_hexadecimal, is_number, magnitude_of, integer_of, number_token, token_of}
 use Rattle.asm_text.proofs.Magnitudes.{minus-number}
 use Rattle.asm_text.proofs.Lexemes.{number-is-token}
@@ -118,3 +118,14 @@ number-beyond n high = rw (lt-leb n 18446744073709551615 (omega arith)) refl
 pub minus-within : (n : ℕ) → n ≤ 2 ^ 63 → number_token (neg_ℤ (pos n)) ≡ Some (Number (neg_ℤ (pos n)))
 minus-within zero low = refl
 minus-within (suc n) low = rw (le-leb n 9223372036854775807 (omega arith)) refl
+
+-- the opposite of a greater one isn't
+pub minus-beyond : (n : ℕ) → 2 ^ 63 < n → number_token (neg_ℤ (pos n)) ≡ None
+minus-beyond zero high = absurd (omega arith)
+minus-beyond (suc n) high = rw (lt-leb n 9223372036854775807 (omega arith)) refl
+
+-- a zero before some digits changes nothing
+pub zero-before : (bytes : List ℕ) → are_some is_digit bytes ≡ true → token_of (48 ∷ bytes) ≡ token_of bytes
+zero-before [] are-digits = cc
+zero-before (byte ∷ bytes) are-digits =
+    digits-token (48 ∷ byte ∷ bytes) (omega arith) are-digits ∙ sym (digits-token (byte ∷ bytes) (omega arith) are-digits)

@@ -1,4 +1,4 @@
--- The names of instructions, each of which finds its own row.
+-- The names of statements, each of which finds its own row.
 use Rattle.std.proofs.Common.{◌≡◌, sym, refl, ℕ, Bool, true, List, [], ◌∷◌, Some, pos, inl, inr}
 use Rattle.std.specs.Prelude.{find, bytes_eq}
 use Rattle.std.proofs.lemmas.Bool.{cases_Bool}
@@ -20,10 +20,13 @@ use Rattle.riscv_decode.specs.declared.instr.UpperOp.TheVariants.{Lui}
 use Rattle.riscv_decode.specs.declared.instr.OneOp.{OneOp}
 use Rattle.riscv_decode.specs.declared.instr.OneOp.TheVariants.{CGetPerm}
 use Rattle.asm_text.specs.declared.operands.Operands.{Operands}
+use Rattle.asm_text.specs.declared.statements.DataSize.{DataSize}
+use Rattle.asm_text.specs.declared.statements.DataSize.TheVariants.{Byte}
+use Rattle.asm_text.specs.declared.statements.Statement.{Statement}
 use Rattle.asm_text.specs.declared.statements.Statement.TheVariants as statement
 use Rattle.asm_text.specs.declared.statements.TheConstants.{STATEMENTS}
 use Rattle.asm_text.specs.Mnemonics.{reg_name, imm_name, load_name, store_name, branch_name, upper_name, one_name, mnemonic}
-use Rattle.asm_text.specs.Statements.{name_of, statement_named, with_registers}
+use Rattle.asm_text.specs.Statements.{data_name, name_of, statement_named, with_registers}
 
 -- the names of operations on two registers find their rows
 reg-named : (op : RegOp) → statement_named (reg_name op) ≡ Some (statement.Instr (Reg op 0 0 0))
@@ -86,6 +89,16 @@ found-passes test (first ∷ others) found is = elim (cases_Bool (test first)) [
   | inr fails ↦ found-passes test others found (rw fails at is)
 ]
 
--- an instruction is found by its name alone
-pub named-as : (name : List ℕ) (instr : Instr) → statement_named name ≡ Some (statement.Instr instr) → name ≡ mnemonic instr
-named-as name instr is = sym ((bytes_eq-Decides (mnemonic instr) name).0 (found-passes (λ row. bytes_eq (name_of row) name) STATEMENTS (statement.Instr instr) is))
+-- a statement is found by its name alone
+pub named-as : (name : List ℕ) (found : Statement) → statement_named name ≡ Some found → name ≡ name_of found
+named-as name found is = sym ((bytes_eq-Decides (name_of found) name).0 (found-passes (λ row. bytes_eq (name_of row) name) STATEMENTS found is))
+
+-- registers don't change the name of an instruction
+pub name-kept : (instr : Instr) (operands : Operands) → mnemonic (with_registers instr operands) ≡ mnemonic instr
+name-kept (Reg op rd rs1 rs2) operands = refl
+name-kept _ operands = refl
+
+-- the names of directives for data find their rows
+pub data-named : (size : DataSize) → statement_named (data_name size) ≡ Some (statement.Data size)
+data-named Byte = refl
+data-named _ = refl

@@ -26,3 +26,4 @@ pub mod NamePlaces
 pub mod OperandPlaces
 pub mod ItemPlaces
 pub mod SourcePlaces
+pub mod WholeLines

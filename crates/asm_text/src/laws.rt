@@ -13,7 +13,7 @@ pub fn tokens_are_exact()
     ensures { TokensAreExact }
 {}
 
-/// Each instruction and each register has one name, by which it is found.
+/// Each instruction has one name, by which it is found, and each register two.
 pub fn names_are_exact()
     ensures { NamesAreExact }
 {}

@@ -3,6 +3,7 @@ use Rattle.std.proofs.Common.{◌∙◌, sym, arith}
 use Rattle.asm_text.specs.Lines.{lines_from}
 use Rattle.asm_text.proofs.SourceRead.{too-long, source-lines, source-read}
 use Rattle.asm_text.proofs.FaultLines.{fault-found, fault-is, lines-good, items-are}
+use Rattle.asm_text.proofs.WholeLines.{lines-whole, lines-unbroken}
 use Rattle.asm_text.proofs.laws.sources_are_exact.Goals as goal
 
 pub returns : goal.returns
@@ -24,4 +25,6 @@ returns c = record {
       };
   read = λ text items is. items-are text 1 (lines_from 0 text) items (source-read text items is);
   right = λ text short good. source-lines text short ∙ lines-good text 1 (lines_from 0 text) (λ n from to. good n from (omega arith));
+  lines = lines-whole 0;
+  unbroken = lines-unbroken 0;
 }

@@ -1,8 +1,8 @@
-use Rattle.std.proofs.Common.{◌≢◌, ◌∙◌, sym, ap, ℕ, ◌<◌, neg_ℤ, pos, ◌∷◌, arith}
+use Rattle.std.proofs.Common.{◌≢◌, ◌∙◌, ap, ℕ, ◌<◌, neg_ℤ, pos, arith}
 use Rattle.std.specs.Prelude.{decimal}
 use Rattle.asm_text.specs.Tokens.{lexeme_length, number_token}
 use Rattle.asm_text.proofs.Longest.{lexeme-longest}
-use Rattle.asm_text.proofs.Decimals.{decimal-digits, decimal-some, decimal-behind, digits-token, minus-token, number-within, number-beyond, minus-within}
+use Rattle.asm_text.proofs.Decimals.{decimal-digits, decimal-some, decimal-behind, digits-token, minus-token, number-within, number-beyond, minus-within, minus-beyond, zero-before}
 use Rattle.asm_text.proofs.laws.tokens_are_exact.Goals as goal
 
 -- what isn't 0 is more
@@ -18,8 +18,9 @@ returns c = record {
       digits-token (decimal n) (decimal-some n) (decimal-digits n) ∙ ap (λ m. number_token (pos m)) (decimal-behind n (omega arith)) ∙ number-within n small;
   negative = λ n small.
       minus-token (decimal n) (decimal-some n) (decimal-digits n) ∙ ap (λ m. number_token (neg_ℤ (pos m))) (decimal-behind n (omega arith)) ∙ minus-within n small;
-  zeros = λ n number is.
-      digits-token (48 ∷ decimal n) (omega arith) (decimal-digits n) ∙ sym (digits-token (decimal n) (decimal-some n) (decimal-digits n)) ∙ is;
+  zeros = zero-before;
   great = λ n high small.
-      digits-token (decimal n) (decimal-some n) (decimal-digits n) ∙ ap (λ m. number_token (pos m)) (decimal-behind n (omega arith)) ∙ number-beyond n high;
+      digits-token (decimal n) (decimal-some n) (decimal-digits n) ∙ ap (λ m. number_token (pos m)) (decimal-behind n small) ∙ number-beyond n high;
+  less = λ n high small.
+      minus-token (decimal n) (decimal-some n) (decimal-digits n) ∙ ap (λ m. number_token (neg_ℤ (pos m))) (decimal-behind n small) ∙ minus-beyond n high;
 }
