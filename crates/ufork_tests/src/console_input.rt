@@ -15,6 +15,8 @@ const TOO_LONG: &[u8] = b"ufork: input too long\n";
 
 const FAILED: &[u8] = b"ufork: input failed\n";
 
+const LACKED: &[u8] = b"ufork: image needs 2 pages, 1 frames\n";
+
 // What has to come of a run: the status, what stands on the errors, and how many bytes of the input were taken.
 type Want = (u8, &'static [u8], usize);
 
@@ -22,11 +24,9 @@ const SAYS_HI: Want = (0, b"exit 1 0\ndone 8\n", 0);
 
 // So many bytes of which no two neighbours are the same.
 fn bytes(alloc: Global, count: usize) -> Result<Vec<u8>, Fail> {
-    let mut bytes = vec![in alloc; 0_u8; count]?;
-    let mut next = 0;
-    for byte in bytes.as_mut_slice() {
-        *byte = next;
-        next = if next == 250 { 0 } else { next + 1 };
+    let mut bytes = Vec::new(alloc);
+    for place in 0..count {
+        bytes.push((place % 251) as u8)?;
     }
     Ok(bytes)
 }
@@ -228,50 +228,55 @@ fn an_earlier_refusal_leaves_the_input(rt: HostRuntime) -> Result<(), Fail> {
     Ok(())
 }
 
-#[test]
-fn frames_are_counted_behind_the_input(rt: HostRuntime) -> Result<(), Fail> {
+// Makes a run of an image of two pages on one frame, and looks at what it left of the input.
+fn check_frames(
+    rt: &(impl Abort + AllocGlobal),
+    input: &[u8],
+    input_fails: Option<u64>,
+    want: Want,
+) -> Result<(), Fail> {
+    let (status, err, taken) = want;
     let mut guest = image_of(rt.alloc(), &HI)?;
     change(&mut guest, (104, 8, 8192));
+    let given = Given {
+        words: "run --frames 1 guest",
+        input,
+        input_fails,
+        ..RUN
+    };
+    check_file(rt, "", &guest, given, (status, b"", err))?;
+    let ran = run_file(rt.alloc(), &guest, given)?;
+    check_left(rt, "", ran, input.get(taken..).ok_or("fewer bytes")?)
+}
+
+#[test]
+fn frames_are_counted_behind_the_input(rt: HostRuntime) -> Result<(), Fail> {
+    check_frames(&rt, b"", None, (12, LACKED, 0))?;
+    check_frames(&rt, b"abcde", None, (12, LACKED, 5))?;
+    check_frames(&rt, b"abcde", Some(0), (6, FAILED, 0))?;
     let long = bytes(rt.alloc(), MOST + 1)?;
-    let rows: [(&[u8], Option<u64>, u8, &'static [u8], usize); 4] = [
-        (b"", None, 12, b"ufork: image needs 2 pages, 1 frames\n", 0),
-        (
-            b"abcde",
-            None,
-            12,
-            b"ufork: image needs 2 pages, 1 frames\n",
-            5,
-        ),
-        (b"abcde", Some(0), 6, FAILED, 0),
-        (&long, None, 11, TOO_LONG, MOST + 1),
-    ];
-    for (input, input_fails, status, err, taken) in rows {
-        let given = Given {
-            words: "run --frames 1 guest",
-            input,
-            input_fails,
-            ..RUN
-        };
-        check_file(&rt, "", &guest, given, (status, b"", err))?;
-        let ran = run_file(rt.alloc(), &guest, given)?;
-        check_left(&rt, "", ran, input.get(taken..).ok_or("fewer bytes")?)?;
-    }
-    Ok(())
+    check_frames(&rt, &long, None, (11, TOO_LONG, MOST + 1))
+}
+
+// The line of a refusal of this input is cut.
+fn check_cut(
+    rt: &(impl Abort + AllocGlobal),
+    input: &[u8],
+    input_fails: Option<u64>,
+) -> Result<(), Fail> {
+    let given = Given {
+        input,
+        input_fails,
+        err_fails: Some(0),
+        ..RUN
+    };
+    let guest = image_of(rt.alloc(), &HI)?;
+    check_file(rt, "", &guest, given, (7, b"", b""))
 }
 
 #[test]
 fn a_cut_line_hides_the_refusal_of_an_input(rt: HostRuntime) -> Result<(), Fail> {
-    let guest = image_of(rt.alloc(), &HI)?;
+    check_cut(&rt, b"abcde", Some(1))?;
     let long = bytes(rt.alloc(), MOST + 1)?;
-    let rows: [(&[u8], Option<u64>); 2] = [(b"abcde", Some(1)), (&long, None)];
-    for (input, input_fails) in rows {
-        let given = Given {
-            input,
-            input_fails,
-            err_fails: Some(0),
-            ..RUN
-        };
-        check_file(&rt, "", &guest, given, (7, b"", b""))?;
-    }
-    Ok(())
+    check_cut(&rt, &long, None)
 }

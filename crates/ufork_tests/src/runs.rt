@@ -75,14 +75,18 @@ fn words(alloc: Global, line: &str) -> Result<Vec<String>, Fail> {
     Ok(words)
 }
 
+// A file of this name and content.
+fn file(alloc: Global, name: &str, content: &[u8]) -> Result<(String, Vec<u8>), Fail> {
+    let mut bytes = Vec::new(alloc);
+    bytes.extend_from_slice(content)?;
+    Ok((String::from_str(alloc, name)?, bytes))
+}
+
 fn files(alloc: Global, guest: &[u8], given: Given<'_>) -> Result<MemoryFiles, Fail> {
-    let contents: [(&str, &[u8]); 3] = [("guest", guest), ("five", &[0; 5]), ("s", given.schedule)];
     let mut entries = Vec::new(alloc);
-    for (name, content) in contents {
-        let mut bytes = Vec::new(alloc);
-        bytes.extend_from_slice(content)?;
-        entries.push((String::from_str(alloc, name)?, bytes))?;
-    }
+    entries.push(file(alloc, "guest", guest)?)?;
+    entries.push(file(alloc, "five", &[0; 5])?)?;
+    entries.push(file(alloc, "s", given.schedule)?)?;
     Ok(MemoryFiles::new(entries, calls(alloc, given.file_fails)?))
 }
 
