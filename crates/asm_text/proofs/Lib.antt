@@ -26,4 +26,8 @@ pub mod NamePlaces
 pub mod OperandPlaces
 pub mod ItemPlaces
 pub mod SourcePlaces
+pub mod TokenRanges
+pub mod OperandRanges
+pub mod ItemRanges
+pub mod SourceRanges
 pub mod WholeLines

@@ -8,5 +8,6 @@ pub mod Statements
 pub mod Source
 pub mod Cursors
 pub mod Spans
+pub mod Ranges
 pub mod Laws
 pub mod Examples

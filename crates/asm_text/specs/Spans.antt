@@ -58,7 +58,7 @@ pub record HasSpans (text : List ℕ) (items : List Item) : Type 0 where
   pub names : All (λ item. All (IsName text) (names_of item.what)) items
   pub strings : All (λ item. All (IsString text) (strings_of item.what)) items
 
--- a source is refused by its fault, but for want of memory
-abbrev pub IsRefusedAs : Result (List Item) SourceFault → SourceRefusal → Type 0
+-- what is read or made of a source is refused by its fault, but for want of memory
+abbrev pub IsRefusedAs : {A : Type 0} → Result A SourceFault → SourceRefusal → Type 0
 IsRefusedAs found (Fault fault) = found ≡ Err fault
 IsRefusedAs found NoMemory = ⊤

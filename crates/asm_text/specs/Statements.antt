@@ -163,32 +163,32 @@ is_close _ = false
 
 -- the operands where a mark is, or none
 abbrev pub marked : Bool → Operands → Option Operands
-marked is o = if is then Some o else None
+marked is operands = if is then Some operands else None
 
 -- the operands with the one that a token says
 abbrev pub put : List ℕ → Slot → Lexeme → Operands → Option Operands
-put text slot.Rd l o = option_map (λ n. record o { rd = n }) (register_in text l)
-put text slot.Rs1 l o = option_map (λ n. record o { rs1 = n }) (register_in text l)
-put text slot.Rs2 l o = option_map (λ n. record o { rs2 = n }) (register_in text l)
-put text slot.Value l o = option_map (λ v. record o { value = v }) (value_in text l)
-put text slot.Comma l o = marked (is_comma l.token) o
-put text slot.Open l o = marked (is_open l.token) o
-put text slot.Close l o = marked (is_close l.token) o
-put text slot.Label l o = option_map (λ span. record o { name = span }) (label_in text l)
-put text slot.Text l o = option_map (λ span. record o { name = span }) (text_from l.token l.span)
-put text slot.Number l o = option_map (λ n. record o { number = n }) (number_from l.token)
-put text slot.Natural l o = option_map (λ n. record o { number = n }) (natural_from l.token)
-put text slot.Rights l o = option_map (λ n. record o { rights = n }) (option_and_then rights_of (word_in text l))
-put text slot.Length l o = option_map (λ n. record o { length = n }) (number_from l.token)
-put text slot.Offset l o = option_map (λ n. record o { offset = n }) (number_from l.token)
-put text slot.Perms l o = option_map (λ n. record o { perms = n }) (number_from l.token)
+put text slot.Rd lexeme operands = option_map (λ n. record operands { rd = n }) (register_in text lexeme)
+put text slot.Rs1 lexeme operands = option_map (λ n. record operands { rs1 = n }) (register_in text lexeme)
+put text slot.Rs2 lexeme operands = option_map (λ n. record operands { rs2 = n }) (register_in text lexeme)
+put text slot.Value lexeme operands = option_map (λ v. record operands { value = v }) (value_in text lexeme)
+put text slot.Comma lexeme operands = marked (is_comma lexeme.token) operands
+put text slot.Open lexeme operands = marked (is_open lexeme.token) operands
+put text slot.Close lexeme operands = marked (is_close lexeme.token) operands
+put text slot.Label lexeme operands = option_map (λ span. record operands { name = span }) (label_in text lexeme)
+put text slot.Text lexeme operands = option_map (λ span. record operands { name = span }) (text_from lexeme.token lexeme.span)
+put text slot.Number lexeme operands = option_map (λ n. record operands { number = n }) (number_from lexeme.token)
+put text slot.Natural lexeme operands = option_map (λ n. record operands { number = n }) (natural_from lexeme.token)
+put text slot.Rights lexeme operands = option_map (λ n. record operands { rights = n }) (option_and_then rights_of (word_in text lexeme))
+put text slot.Length lexeme operands = option_map (λ n. record operands { length = n }) (number_from lexeme.token)
+put text slot.Offset lexeme operands = option_map (λ n. record operands { offset = n }) (number_from lexeme.token)
+put text slot.Perms lexeme operands = option_map (λ n. record operands { perms = n }) (number_from lexeme.token)
 
 -- what the tokens say that stand in a form
 abbrev pub filled : List ℕ → List Slot → List Lexeme → Operands → Option Operands
-filled text [] [] o = Some o
-filled text [] (lexeme ∷ lexemes) o = None
-filled text (slot ∷ slots) [] o = None
-filled text (slot ∷ slots) (lexeme ∷ lexemes) o = option_and_then (filled text slots lexemes) (put text slot lexeme o)
+filled text [] [] operands = Some operands
+filled text [] (lexeme ∷ lexemes) operands = None
+filled text (slot ∷ slots) [] operands = None
+filled text (slot ∷ slots) (lexeme ∷ lexemes) operands = option_and_then (filled text slots lexemes) (put text slot lexeme operands)
 
 -- what is said where nothing is
 abbrev pub nowhere : Span
@@ -199,27 +199,27 @@ no_operands = record { rd = 0; rs1 = 0; rs2 = 0; value = value.Number (pos 0); n
 
 -- an instruction with these registers, and with the immediate 0
 abbrev pub with_registers : Instr → Operands → Instr
-with_registers (Reg op rd rs1 rs2) o = Reg op o.rd o.rs1 o.rs2
-with_registers (Imm op rd rs1 value) o = Imm op o.rd o.rs1 (pos 0)
-with_registers (Load op rd rs1 value) o = Load op o.rd o.rs1 (pos 0)
-with_registers (Store op rs1 rs2 value) o = Store op o.rs1 o.rs2 (pos 0)
-with_registers (Branch op rs1 rs2 value) o = Branch op o.rs1 o.rs2 (pos 0)
-with_registers (Upper op rd value) o = Upper op o.rd 0
-with_registers (Jal rd value) o = Jal o.rd (pos 0)
-with_registers (Jalr rd rs1 value) o = Jalr o.rd o.rs1 (pos 0)
-with_registers (One op rd rs1) o = One op o.rd o.rs1
-with_registers Ecall o = Ecall
-with_registers Ebreak o = Ebreak
-with_registers Fence o = Fence
+with_registers (Reg op rd rs1 rs2) operands = Reg op operands.rd operands.rs1 operands.rs2
+with_registers (Imm op rd rs1 value) operands = Imm op operands.rd operands.rs1 (pos 0)
+with_registers (Load op rd rs1 value) operands = Load op operands.rd operands.rs1 (pos 0)
+with_registers (Store op rs1 rs2 value) operands = Store op operands.rs1 operands.rs2 (pos 0)
+with_registers (Branch op rs1 rs2 value) operands = Branch op operands.rs1 operands.rs2 (pos 0)
+with_registers (Upper op rd value) operands = Upper op operands.rd 0
+with_registers (Jal rd value) operands = Jal operands.rd (pos 0)
+with_registers (Jalr rd rs1 value) operands = Jalr operands.rd operands.rs1 (pos 0)
+with_registers (One op rd rs1) operands = One op operands.rd operands.rs1
+with_registers Ecall operands = Ecall
+with_registers Ebreak operands = Ebreak
+with_registers Fence operands = Fence
 
 -- what a statement says by its operands
 abbrev pub said : Statement → Operands → What
-said (statement.Instr instr) o = what.Instr (with_registers instr o) o.value
-said statement.Segment o = what.Segment o.number o.rights
-said statement.Entry o = what.Entry o.name
-said (statement.Data size) o = what.Bytes (bytes_of size) o.value
-said statement.Ascii o = what.Ascii o.name
-said statement.Space o = what.Space o.number
-said statement.Align o = what.Align o.number
-said statement.Bss o = what.Bss o.number
-said statement.Cap o = what.Cap o.name o.length o.offset o.perms
+said (statement.Instr instr) operands = what.Instr (with_registers instr operands) operands.value
+said statement.Segment operands = what.Segment operands.number operands.rights
+said statement.Entry operands = what.Entry operands.name
+said (statement.Data size) operands = what.Bytes (bytes_of size) operands.value
+said statement.Ascii operands = what.Ascii operands.name
+said statement.Space operands = what.Space operands.number
+said statement.Align operands = what.Align operands.number
+said statement.Bss operands = what.Bss operands.number
+said statement.Cap operands = what.Cap operands.name operands.length operands.offset operands.perms

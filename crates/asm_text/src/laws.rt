@@ -1,6 +1,7 @@
 // Laws of the language: each is a function that states one, does nothing and takes nothing.
 ghost use Rattle.asm_text.specs.Numbers.{ConstantsAreFixed};
 ghost use Rattle.asm_text.specs.Laws.{TokensAreExact, NamesAreExact, SourcesAreExact, SourcesHaveSpans};
+ghost use Rattle.asm_text.specs.Ranges.{SourcesHaveRanges};
 ghost use Rattle.asm_text.specs.Examples.{WorkedLinesHold};
 
 /// The constants of this crate are the numbers that the definitions fix.
@@ -26,6 +27,11 @@ pub fn sources_are_exact()
 /// The names and strings of a source stand at their places in its text, which rise.
 pub fn sources_have_spans()
     ensures { SourcesHaveSpans }
+{}
+
+/// The numbers of a source are in their ranges, and the registers of its instructions are those that there are.
+pub fn sources_have_ranges()
+    ensures { SourcesHaveRanges }
 {}
 
 /// Lines that were worked out by hand are read as that.

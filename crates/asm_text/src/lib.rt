@@ -15,8 +15,8 @@ mod statements;
 mod tokens;
 
 pub use laws::{
-    constants_are_fixed, names_are_exact, sources_are_exact, sources_have_spans, tokens_are_exact,
-    worked_lines_hold,
+    constants_are_fixed, names_are_exact, sources_are_exact, sources_have_ranges,
+    sources_have_spans, tokens_are_exact, worked_lines_hold,
 };
 pub use listing::{Item, Listing, Span, Value, What};
 pub use mnemonics::mnemonic;

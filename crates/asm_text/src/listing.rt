@@ -1,5 +1,5 @@
 // What a source says, item by item.
-ghost use Rattle.std.specs.Prelude.{◌≡◌, ◌<◌, length, slice_get, Some};
+ghost use Rattle.std.specs.Prelude.{◌≡◌, ◌<◌, ◌^◌, length, slice_get, Some};
 
 use riscv_decode::Instr;
 use std::marker::Model;
@@ -13,6 +13,19 @@ pub struct Span {
     pub past: u32,
 }
 
+impl Span {
+    ghost use Rattle.asm_text.specs.Lines.{slice_of};
+
+    /// The bytes of a text there, or those of them that the text has.
+    pub fn slice(self, text: &[u8]) -> &[u8]
+        ensures { result.now ≡ slice_of text.now self }
+    {
+        let past = text.len().min(self.past as usize);
+        let first = past.min(self.first as usize);
+        &text[first..past]
+    }
+}
+
 /// A number from `-2^63` to `2^64 - 1`, or the label of this name.
 #[derive(Clone, Copy, Debug, PartialEq, Eq)]
 pub enum Value {
@@ -20,14 +33,14 @@ pub enum Value {
     Name(Span),
 }
 
-/// What an item says.
+/// What an item says. Addresses, counts, lengths and offsets are in bytes.
 #[derive(Clone, Copy, Debug, PartialEq, Eq)]
 pub enum What {
     /// A label stands here.
     Label {
         name: Span,
     },
-    /// A segment begins, at an address and with the rights of its pages.
+    /// A segment begins, at a place in the region, from its start, and with the rights of its pages: the bits r 4, w 2 and x 1.
     Segment {
         at: i128,
         rights: u8,
@@ -49,7 +62,7 @@ pub enum What {
     Space {
         count: i128,
     },
-    /// Zeros up to a multiple of this.
+    /// Zeros up to a multiple of this many bytes.
     Align {
         to: i128,
     },
@@ -57,7 +70,8 @@ pub enum What {
     Bss {
         count: i128,
     },
-    /// A capability from a label on, with its length, the offset of its address, and its permissions.
+    /// A capability whose base is the place of a label in the region, from its start, with its length, the offset of its address from there,
+    /// and its permissions.
     Cap {
         base: Span,
         length: i128,
@@ -104,7 +118,8 @@ impl Listing {
 
     /// The number of items.
     pub fn count(&self) -> usize
-        ensures { result ≡ length self.now }
+        ensures is { result ≡ length self.now }
+        ensures small { result < 2 ^ 63 }
     {
         self.items.len()
     }

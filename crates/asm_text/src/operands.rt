@@ -1,6 +1,5 @@
 // The operands of a statement, as its form asks for them.
 ghost use Rattle.std.specs.Prelude.{◌≡◌, MatchOption, Some, None, option_and_then};
-ghost use Rattle.asm_text.specs.Lines.{slice_of};
 ghost use Rattle.asm_text.specs.Cursors.{IsPlaced, GoesOn};
 ghost use Rattle.asm_text.specs.Statements.{statement_named, form_of, instr_form, register_of, register_number, rights_of, is_label_name, said, with_registers, no_operands, word_in, label_in, value_in, register_in, number_from, natural_from, text_from, filled};
 
@@ -160,21 +159,13 @@ fn is_label_name(name: &[u8]) -> bool
     name.iter().all(|byte| *byte != b'.')
 }
 
-/// The bytes of a text at a span.
-pub fn slice(text: &[u8], span: Span) -> &[u8]
-    requires { IsPlaced text.now span }
-    ensures { result.now ≡ slice_of text.now span }
-{
-    &text[span.first as usize..span.past as usize]
-}
-
 // The word that a token is.
 fn word_in(text: &[u8], lexeme: Lexeme) -> Option<&[u8]>
     requires { IsPlaced text.now lexeme.span }
     ensures { MatchOption result (word_in text.now lexeme ≡ None) (λ word. word_in text.now lexeme ≡ Some word.now) }
 {
     if lexeme.token == Token::Word {
-        Some(slice(text, lexeme.span))
+        Some(lexeme.span.slice(text))
     } else {
         None
     }
@@ -312,10 +303,10 @@ pub fn read_operands(cursor: &mut Cursor<'_>, statement: &Statement) -> Option<O
 }
 
 // An instruction with these registers, and with the immediate 0.
-fn with_registers(instr: Instr, o: &Operands) -> Instr
-    ensures { result ≡ with_registers instr o.now }
+fn with_registers(instr: Instr, operands: &Operands) -> Instr
+    ensures { result ≡ with_registers instr operands.now }
 {
-    let Operands { rd, rs1, rs2, .. } = *o;
+    let Operands { rd, rs1, rs2, .. } = *operands;
     match instr {
         Instr::Reg { op, .. } => Instr::Reg { op, rd, rs1, rs2 },
         Instr::Imm { op, .. } => Instr::Imm {
@@ -353,32 +344,42 @@ fn with_registers(instr: Instr, o: &Operands) -> Instr
 }
 
 /// What a statement says by its operands.
-pub fn said(statement: Statement, o: &Operands) -> What
-    ensures { result ≡ said statement o.now }
+pub fn said(statement: Statement, operands: &Operands) -> What
+    ensures { result ≡ said statement operands.now }
 {
     match statement {
         Statement::Instr(instr) => What::Instr {
-            instr: with_registers(instr, o),
-            value: o.value,
+            instr: with_registers(instr, operands),
+            value: operands.value,
         },
         Statement::Segment => What::Segment {
-            at: o.number,
-            rights: o.rights,
+            at: operands.number,
+            rights: operands.rights,
         },
-        Statement::Entry => What::Entry { name: o.name },
+        Statement::Entry => What::Entry {
+            name: operands.name,
+        },
         Statement::Data(size) => What::Bytes {
             size: size.bytes(),
-            value: o.value,
+            value: operands.value,
         },
-        Statement::Ascii => What::Ascii { text: o.name },
-        Statement::Space => What::Space { count: o.number },
-        Statement::Align => What::Align { to: o.number },
-        Statement::Bss => What::Bss { count: o.number },
+        Statement::Ascii => What::Ascii {
+            text: operands.name,
+        },
+        Statement::Space => What::Space {
+            count: operands.number,
+        },
+        Statement::Align => What::Align {
+            to: operands.number,
+        },
+        Statement::Bss => What::Bss {
+            count: operands.number,
+        },
         Statement::Cap => What::Cap {
-            base: o.name,
-            length: o.length,
-            offset: o.offset,
-            perms: o.perms,
+            base: operands.name,
+            length: operands.length,
+            offset: operands.offset,
+            perms: operands.perms,
         },
     }
 }

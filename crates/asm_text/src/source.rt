@@ -13,7 +13,8 @@ use crate::statements::{DataSize, Statement};
 use crate::tokens::{Lexeme, Token};
 use std::alloc::{AllocError, Global};
 
-/// Why a source is refused.
+/// Why a source is refused: the reasons of a text, of the places of its statements, of their values, and of the entry. [`read_source`] finds
+/// the first three.
 #[derive(Clone, Copy, Debug, PartialEq, Eq)]
 pub enum SourceReason {
     /// It has over [`SOURCE_BYTES`] bytes.
@@ -22,6 +23,33 @@ pub enum SourceReason {
     BadText,
     /// A line is no labels and at most one statement.
     BadStatement,
+    /// A label or content stands before the first segment.
+    NoSegment,
+    /// A segment's address isn't that of a page of the region, or lies below the end of the segment before it.
+    BadSegment,
+    /// There are 15 segments already.
+    TooMany,
+    /// `.align` has no power of two from 1 to 4096.
+    BadAlign,
+    /// Content stands behind `.bss` in its segment.
+    AfterBss,
+    /// An instruction isn't at a multiple of 4, or `.cap` not at one of 16.
+    Misplaced,
+    /// Content ends behind the region.
+    TooLarge,
+    /// A segment has no bytes.
+    Empty,
+    /// A label or `.entry` stands in the text already.
+    Twice,
+    /// No line has the label.
+    UnknownLabel,
+    /// A value is out of its range, or the distance of a branch or of `cjal` is odd.
+    OutOfRange,
+    /// The bounds of `.cap` don't lie in the region or aren't exact, its address lies behind them, or it has a permission that there
+    /// isn't.
+    BadCap,
+    /// There is no entry, or it is at no instruction of a page that may be executed.
+    NoEntry,
 }
 
 /// A refusal, and the number of the line, from 1; 0 where it isn't that of a line.
@@ -37,6 +65,17 @@ pub enum SourceRefusal {
     Fault(SourceFault),
     /// There was no memory for it.
     NoMemory,
+}
+
+impl From<AllocError> for SourceRefusal {
+    ghost use Rattle.std.specs.Prelude.{◌≡◌};
+    ghost use Rattle.asm_text.specs.declared.source.SourceRefusal.TheVariants.{NoMemory};
+
+    ghost from_gives = { λ _ refusal. refusal ≡ NoMemory };
+
+    fn from(_error: AllocError) -> SourceRefusal {
+        SourceRefusal::NoMemory
+    }
 }
 
 // Reads the values of data, which are the rest of a line. The answer is whether they are that.
@@ -172,10 +211,8 @@ pub fn read_source(alloc: Global, text: &[u8]) -> Result<Listing, SourceRefusal>
     let mut at = 0;
     while at < text.len() {
         let past = line_end(text, at);
-        match read_line(text, line, at, past, &mut items) {
-            Ok(None) => {}
-            Ok(Some(reason)) => return Err(fault(line, reason)),
-            Err(AllocError) => return Err(SourceRefusal::NoMemory),
+        if let Some(reason) = read_line(text, line, at, past, &mut items)? {
+            return Err(fault(line, reason));
         }
         line += 1;
         at = past + 1;

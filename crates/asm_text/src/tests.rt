@@ -583,6 +583,24 @@ fn lines_end_at_line_feeds(rt: HostRuntime) -> Result<(), Fail> {
     check_items(&rt, "#c\na:", &[(2, at(3, 4))])
 }
 
+#[test]
+fn a_span_has_those_bytes_that_the_text_has(rt: HostRuntime) -> Result<(), Fail> {
+    let rows: [(Span, &'static [u8]); 8] = [
+        (span(0, 3), b"add"),
+        (span(4, 6), b"x1"),
+        (span(4, 4), b""),
+        (span(4, 7), b"x1"),
+        (span(6, 4_294_967_295), b""),
+        (span(7, 9), b""),
+        (span(4, 3), b""),
+        (span(9, 2), b""),
+    ];
+    for (place, bytes) in rows {
+        assert_eq!(rt; place.slice(b"add x1"), bytes, "{place:?}");
+    }
+    Ok(())
+}
+
 // Blanks, so many, and then a statement.
 fn blanks(alloc: Global, count: usize, line: &[u8]) -> Result<Vec<u8>, Fail> {
     let mut text = vec![in alloc; b' '; count]?;

@@ -17,13 +17,13 @@ loop-at-init c = record {
   read = rw c.new-items.ensures.items (put-none _ ∙ sym (source-lines c.args.text.now (omega arith)));
 }
 
-pub returns-in-Ok-Some-clause-read : goal.returns-in-Ok-Some-clause-read
-returns-in-Ok-Some-clause-read c =
+pub returns-in-Some-clause-read : goal.returns-in-Some-clause-read
+returns-in-Some-clause-read c =
     let text = c.args.text.now in
     let l = c.loop-at in
     let lines = ap (λ lines. put-before l.items.items (of_lines text l.line lines)) (line-at text l.at c.line_end-past.result c.loop-at-test.true c.line_end-past.ensures) in
-    let said = rw c.in-Ok-Some.field-0-is at c.in-Ok-Some.ensures in
-    rw c.fault-in-Ok-Some.ensures (sym l.invariant.read ∙ lines ∙ line-fault l.line _ _ _ _ c.in-Ok-Some.reason said)
+    let said = rw c.in-Some.is at c.in_ok-reason.ensures in
+    rw c.fault-in-Some.ensures (sym l.invariant.read ∙ lines ∙ line-fault l.line _ _ _ _ c.in-Some.reason said)
 
 pub loop-at-preserved : goal.loop-at-preserved
 loop-at-preserved c =
@@ -31,7 +31,7 @@ loop-at-preserved c =
     let l = c.loop-at in
     let end = c.line_end-past.ensures in
     let lines = ap (λ lines. put-before l.items.items (of_lines text l.line lines)) (line-at text l.at c.line_end-past.result c.loop-at-test.true end) in
-    let said = rw c.in-Ok-None.field-0-is at c.in-Ok-None.ensures in
+    let said = rw c.in_default.is at c.in_ok-reason.ensures in
     record {
       within = omega (arith, end.to);
       number = omega (arith, end.from);

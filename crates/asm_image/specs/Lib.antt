@@ -1,0 +1,15 @@
+pub mod Numbers
+pub mod Pieces
+pub mod Program
+pub mod Sound
+pub mod Places
+pub mod Faults
+pub mod Labels
+pub mod Values
+pub mod Rules
+pub mod Assembled
+pub mod Strings
+pub mod Known
+pub mod Layout
+pub mod Laws
+pub mod Examples
