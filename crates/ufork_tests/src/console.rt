@@ -1,8 +1,7 @@
 // The calls exit and write of whole guests: what they answer and print.
-use crate::guests::bytes_of;
 use crate::instrs::{
-    EXIT, WRITE, addi, auipcc, candperm, cincoffset, cincoffsetimm, cjal, cmove, csealentry, lui,
-    slli, srli, write_and_exit,
+    EXIT, WRITE, addi, auipcc, bytes_of, candperm, cincoffset, cincoffsetimm, cjal, cmove,
+    csealentry, lui, slli, srli, write_and_exit,
 };
 use crate::runs::check_done;
 use riscv_decode::Instr;

@@ -1,9 +1,8 @@
 // Runs of images of several segments: the pages that a guest has, their bytes and their rights.
 use crate::files::{Change, Part, change, image_with, image_with_code, segment};
-use crate::guests::bytes_of;
 use crate::instrs::{
-    EXIT, WRITE, addi, auipcc, bne, cincoffset, cincoffsetimm, cjalr, cmove, load, lui, one, store,
-    write_and_exit,
+    EXIT, WRITE, addi, auipcc, bne, bytes_of, cincoffset, cincoffsetimm, cjalr, cmove, load, lui,
+    one, store, write_and_exit,
 };
 use crate::runs::{RUN, check_file};
 use riscv_decode::{Instr, LoadOp, OneOp, StoreOp};

@@ -1,6 +1,5 @@
 // Instructions by the names of their rows, and the pages of guests that are written in them.
-use crate::guests::bytes_of;
-use riscv_decode::{BranchOp, ImmOp, Instr, LoadOp, OneOp, RegOp, StoreOp, UpperOp};
+use riscv_decode::{BranchOp, ImmOp, Instr, LoadOp, OneOp, RegOp, StoreOp, UpperOp, encode};
 use std::alloc::Global;
 use std::test::Fail;
 
@@ -9,6 +8,16 @@ pub const EXIT: i32 = 1;
 
 /// The number of the call that writes.
 pub const WRITE: i32 = 8;
+
+/// The words of instructions, each of four bytes, the lowest first.
+pub fn bytes_of(alloc: Global, code: &[Instr]) -> Result<Vec<u8>, Fail> {
+    let mut bytes = Vec::new(alloc);
+    for instr in code {
+        let word = encode(instr).ok_or("no word")?;
+        bytes.extend_from_slice(&word.to_le_bytes())?;
+    }
+    Ok(bytes)
+}
 
 pub fn addi(rd: u8, rs1: u8, imm: i32) -> Instr {
     Instr::Imm {

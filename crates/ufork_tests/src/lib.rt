@@ -1,17 +1,11 @@
-//! Whole runs of the program over memory, and over writers that take a part of a line, with the boards that come back; single
-//! instructions of a guest over a space; and the start of an image on few frames.
+//! Whole runs of the program over memory, and over writers that take a part of a line, with the boards that come back; and the start
+//! of an image on few frames.
 //!
 //! The crate offers nothing: it holds the tests that need all layers.
 #![tactic(auto)]
 
 #[cfg(test)]
-mod accesses;
-#[cfg(test)]
 mod boards;
-#[cfg(test)]
-mod caps;
-#[cfg(test)]
-mod causes;
 #[cfg(test)]
 mod commands;
 #[cfg(test)]
@@ -25,29 +19,21 @@ mod files;
 #[cfg(test)]
 mod first_path;
 #[cfg(test)]
-mod guests;
-#[cfg(test)]
 mod image_runs;
 #[cfg(test)]
 mod images;
 #[cfg(test)]
 mod instrs;
 #[cfg(test)]
-mod jumps;
-#[cfg(test)]
 mod left_boards;
 #[cfg(test)]
 mod long_writes;
-#[cfg(test)]
-mod loops;
 #[cfg(test)]
 mod programs;
 #[cfg(test)]
 mod refused_images;
 #[cfg(test)]
 mod relocations;
-#[cfg(test)]
-mod rows;
 #[cfg(test)]
 mod runs;
 #[cfg(test)]

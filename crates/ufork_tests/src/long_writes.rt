@@ -2,8 +2,7 @@
 use crate::boards::{Left, left_on};
 use crate::cut_lines::run_with_room;
 use crate::files::{image_with_code, segment};
-use crate::guests::bytes_of;
-use crate::instrs::{EXIT, WRITE, addi, cincoffset, csetbounds, lui, write_and_exit};
+use crate::instrs::{EXIT, WRITE, addi, bytes_of, cincoffset, csetbounds, lui, write_and_exit};
 use crate::runs::{Given, RUN, check_file, run_file};
 use riscv_decode::Instr;
 use std::alloc::Global;

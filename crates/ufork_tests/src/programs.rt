@@ -1,8 +1,7 @@
 // Whole guests with loads, stores, loops and jumps, and runs that are stopped.
 use crate::boards::Left;
-use crate::guests::bytes_of;
 use crate::images::page_of;
-use crate::instrs::{EXIT, addi, bne, cjal, cjalr, five_writes, lui};
+use crate::instrs::{EXIT, addi, bne, bytes_of, cjal, cjalr, five_writes, lui};
 use crate::runs::{Given, RUN, Want, check, check_done};
 use riscv_decode::Instr;
 use std::alloc::Global;

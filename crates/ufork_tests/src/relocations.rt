@@ -1,8 +1,8 @@
 // Runs of images with relocations: the capabilities that a guest finds in its pages.
 use crate::files::{Part, image_with_code, relocation, segment};
-use crate::guests::bytes_of;
 use crate::instrs::{
-    EXIT, addi, cincoffset, cincoffsetimm, cjalr, cmove, load, lui, one, store, write_and_exit,
+    EXIT, addi, bytes_of, cincoffset, cincoffsetimm, cjalr, cmove, load, lui, one, store,
+    write_and_exit,
 };
 use crate::runs::{RUN, check_file};
 use elf_loader::Reloc;

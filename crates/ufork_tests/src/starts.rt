@@ -3,7 +3,6 @@ ghost use Rattle.contents.specs.Conditions.{HasStore};
 ghost use Rattle.stores.specs.Known.{StandsFor};
 ghost use Rattle.full_space.specs.Full.{FullStands};
 
-use crate::caps::{CODE, tagged, untagged};
 use crate::files::{image_with_code, relocation, segment};
 use crate::images::HI;
 use cap_format::{Cap, PAGE_GRANULES, REGION_PAGES};
@@ -12,6 +11,21 @@ use full_space::FullSpace;
 use std::alloc::Global;
 use std::test::Fail;
 use stores::{Board, Stores};
+
+// PCC at the start of the region: the whole region, to execute and to load with tags.
+const CODE: Cap = Cap {
+    bits: 0x0016_0000_0400_4000_0000_0001_0000_0000,
+    tag: true,
+};
+
+// Bits without a tag, and with one.
+fn untagged(bits: u128) -> Cap {
+    Cap { bits, tag: false }
+}
+
+fn tagged(bits: u128) -> Cap {
+    Cap { bits, tag: true }
+}
 
 // An image of two pages: the code, and page 1 with four letters, whose second granule has a relocation.
 fn two_pages(alloc: Global) -> Result<Vec<u8>, Fail> {

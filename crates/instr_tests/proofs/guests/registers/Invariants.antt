@@ -1,5 +1,5 @@
 use Rattle.machine_types.specs.Registers.{AreInside, IsRegisterFile}
-use Rattle.ufork_tests.proofs.guests.registers.Given as goal
+use Rattle.instr_tests.proofs.guests.registers.Given as goal
 
 -- they are a register file, and those that are tagged lie inside the region
 abbrev pub invariant-loop-n : goal.invariant-loop-n

@@ -3,7 +3,7 @@ use Rattle.contents.specs.Conditions.{HasStore}
 use Rattle.stores.proofs.Keeping.{stands-weaker}
 use Rattle.full_space.specs.Full.{FullStands}
 use Rattle.cheri_step.specs.Effect.{CanStep}
-use Rattle.ufork_tests.proofs.guests.Guest.new.Goals as goal
+use Rattle.instr_tests.proofs.guests.Guest.new.Goals as goal
 
 pub invariant_of-result : goal.invariant_of-result
 invariant_of-result c = record {

@@ -4,7 +4,7 @@ use Rattle.contents.proofs.KeptRegions.{add_page-regions}
 use Rattle.contents.proofs.StayedElse.{added-others}
 use Rattle.stores.proofs.Keeping.{stands-after}
 use Rattle.full_space.specs.Full.{FullStands}
-use Rattle.ufork_tests.proofs.guests.add_next_page.Goals as goal
+use Rattle.instr_tests.proofs.guests.add_next_page.Goals as goal
 
 pub returns : goal.returns
 returns c = record {

@@ -4,7 +4,7 @@ use Rattle.contents.specs.Content.{page_in}
 use Rattle.contents.specs.Conditions.{HasStore, HasEmptyStore, LacksPage}
 use Rattle.stores.proofs.Keeping.{stands-weaker}
 use Rattle.full_space.specs.Full.{FullStands}
-use Rattle.ufork_tests.proofs.guests.begin_pages.Goals as goal
+use Rattle.instr_tests.proofs.guests.begin_pages.Goals as goal
 
 pub add_next_page-requires-clause-lacks : goal.add_next_page-requires-clause-lacks
 add_next_page-requires-clause-lacks c p from =
