@@ -3,7 +3,7 @@ use Rattle.std.proofs.Common.{ℕ, ◌+◌, ◌^◌, ◌<◌, ◌≤◌, List, [
 use Rattle.std.proofs.lemmas.Nat.{and_le_r}
 use Rattle.cap_format.specs.Numbers.{all_permissions}
 use Rattle.cap_format.specs.declared.image.Relocation.{Relocation}
-use Rattle.asm_image.specs.Program.{Segment, end_of, segment_header, segment_headers, table_headers, after, after_all}
+use Rattle.asm_image.specs.Program.{Segment, segment_end, segment_header, segment_headers, table_headers, after, after_all}
 use Rattle.asm_image.specs.Sound.{IsSegment, AreSegments, AreRelocations}
 use Rattle.asm_image.proofs.HeadersRead.{HeaderFits, HeadersFit}
 use Rattle.asm_image.proofs.RelocationsRead.{RelocationsFit}
@@ -25,7 +25,7 @@ pub segments-fit : (past at : ℕ) (segments : List Segment) → AreSegments pas
 segments-fit past at [] are below = tt
 segments-fit past at (segment ∷ segments) (here, there) below = (
   segment-fits past at segment here (omega (arith, after-all-above (after at segment) segments)),
-  segments-fit (end_of segment) (after at segment) segments there below,
+  segments-fit (segment_end segment) (after at segment) segments there below,
 )
 
 -- the table's header

@@ -9,7 +9,7 @@ use Rattle.cap_format.specs.declared.image.Relocation.{Relocation}
 use Rattle.asm_text.specs.declared.listing.Item.{Item}
 use Rattle.asm_image.specs.declared.place.OpenSegment.{OpenSegment}
 use Rattle.asm_image.specs.Pieces.{Piece, piece_bytes, bytes_of}
-use Rattle.asm_image.specs.Program.{Segment, Program, file_header, header_pieces, segment_headers, segment_pieces, table_headers, table_pieces, after_all, count_of, front_of, headers_of, file_of}
+use Rattle.asm_image.specs.Program.{Segment, Program, file_header, header_pieces, segment_headers, segment_pieces, table_headers, table_pieces, after_all, count_of, front_of, program_headers, file_of}
 use Rattle.asm_image.specs.Faults.{AllMet}
 use Rattle.asm_image.specs.Labels.{Offsets}
 use Rattle.asm_image.specs.Rules.{places_rules}
@@ -55,7 +55,7 @@ parts-of p =
     let parts : List Piece = segment_pieces (front_of p) p.segments in
     let last : List Piece = table_pieces (after_all (front_of p) p.segments) p.relocations in
     let headers : List Piece = flat_map header_pieces own ++ flat_map header_pieces table in
-    let same : flat_map header_pieces (headers_of p) ≡ headers = ap (flat_map header_pieces) (headers-are p) ∙ flat_map-append header_pieces own table in
+    let same : flat_map header_pieces (program_headers p) ≡ headers = ap (flat_map header_pieces) (headers-are p) ∙ flat_map-append header_pieces own table in
     ap (λ pieces. bytes_of (first ++ (pieces ++ (parts ++ last)))) same
     ∙ ap bytes_of (sym (append_assoc first headers (parts ++ last)) ∙ sym (append_assoc (first ++ headers) parts last))
     ∙ bytes-append ((first ++ headers) ++ parts) last ∙ ap (λ bytes. bytes ++ bytes_of last) (bytes-append (first ++ headers) parts)

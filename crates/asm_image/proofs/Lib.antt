@@ -40,3 +40,4 @@ pub mod Immediates
 pub mod DataBytes
 pub mod SegmentsSaid
 pub mod StatementsStand
+pub mod SegmentsFull

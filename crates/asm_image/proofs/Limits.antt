@@ -5,7 +5,7 @@ use Rattle.std.proofs.lemmas.Grind.{common_steps}
 use Rattle.cap_format.specs.Numbers.{region_bytes, page_bytes, granule_bytes}
 use Rattle.cap_format.specs.SetBounds.{up_to}
 use Rattle.cap_format.specs.declared.image.Relocation.{Relocation}
-use Rattle.asm_image.specs.Program.{Segment, end_of, after, after_all, holds_place, holds_code}
+use Rattle.asm_image.specs.Program.{Segment, segment_end, after, after_all, holds_place, holds_code}
 use Rattle.asm_image.specs.Sound.{AreSegments, AreRelocations}
 
 -- Each page of the region is at most one segment's: the segments take no more of the file than of the region.
@@ -13,15 +13,15 @@ pub after-all-most : (at past : ℕ) (segments : List Segment) → past % page_b
     → after_all at segments + past ≤ up_to at page_bytes + region_bytes
 after-all-most at past [] aligned below are = omega arith
 after-all-most at past (segment ∷ segments) aligned below (here, there) =
-    let rest : after_all (after at segment) segments + end_of segment ≤ up_to (after at segment) page_bytes + region_bytes =
-    after-all-most (after at segment) (end_of segment) segments (omega arith) (omega (arith, here.inside)) there in
+    let rest : after_all (after at segment) segments + segment_end segment ≤ up_to (after at segment) page_bytes + region_bytes =
+    after-all-most (after at segment) (segment_end segment) segments (omega arith) (omega (arith, here.inside)) there in
     omega (arith, here.behind, here.aligned, rest)
 
 -- a place on a page of a segment is in the region
 pub place-below : (place past : ℕ) (segments : List Segment) → AreSegments past segments → list_any (holds_place place) segments ≡ true → place < region_bytes
 place-below place past [] are on = grind arith
 place-below place past (segment ∷ segments) (here, there) on =
-    grind (arith, common_steps, here.inside, place-below place (end_of segment) segments there)
+    grind (arith, common_steps, here.inside, place-below place (segment_end segment) segments there)
 
 -- a place on a page that may be executed is on a page
 pub code-on-page : (place : ℕ) (segments : List Segment) → list_any (holds_code place) segments ≡ true → list_any (holds_place place) segments ≡ true

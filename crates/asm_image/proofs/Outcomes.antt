@@ -8,7 +8,7 @@ use Rattle.asm_text.specs.declared.source.SourceReason.TheVariants.{NoEntry}
 use Rattle.asm_text.specs.declared.source.SourceFault.{SourceFault}
 use Rattle.asm_text.specs.declared.listing.Item.{Item}
 use Rattle.asm_image.specs.declared.place.OpenSegment.{OpenSegment}
-use Rattle.asm_image.specs.Program.{Segment, end_of, holds_code, file_of}
+use Rattle.asm_image.specs.Program.{Segment, segment_end, holds_code, file_of}
 use Rattle.asm_image.specs.Sound.{AreSegments, IsProgram}
 use Rattle.asm_image.specs.Faults.{AllMet, found_by}
 use Rattle.asm_image.specs.Labels.{Offsets, offsets_in, entry_in}
@@ -94,7 +94,7 @@ ends-inside past [] (end ∷ ends) in-order are = absurd are
 ends-inside past (segment ∷ segments) [] in-order are = absurd are
 ends-inside past (segment ∷ segments) (end ∷ ends) (here-is, there) (is, are) =
     let inside : IsInside end = omega (arith, here-is.inside, is.start, is.size, is.bss) in
-    All-cons IsInside end ends inside (ends-inside (end_of segment) segments ends there are)
+    All-cons IsInside end ends inside (ends-inside (segment_end segment) segments ends there are)
 
 -- The segments of a listing that keeps the rules on places lie in the region.
 pub closed-inside : (text : List ℕ) (items : List Item) → AllInRange items → AllMet (places_rules text 0 None items) → All IsInside (closed_from text None items)

@@ -5,7 +5,7 @@ use Rattle.cap_format.specs.Numbers.{region_bytes, page_bytes, file_header_bytes
 use Rattle.cap_format.specs.SetBounds.{up_to}
 use Rattle.cap_format.specs.declared.image.Relocation.{Relocation}
 use Rattle.asm_image.specs.Pieces.{Piece}
-use Rattle.asm_image.specs.Program.{Program, header_pieces, segment_headers, segment_pieces, after_all, table_count, table_headers, table_pieces, count_of, front_of, headers_of, pieces_of, file_of}
+use Rattle.asm_image.specs.Program.{Program, header_pieces, segment_headers, segment_pieces, after_all, table_count, table_headers, table_pieces, count_of, front_of, program_headers, pieces_of, file_of}
 use Rattle.asm_image.specs.Sound.{IsProgram}
 use Rattle.asm_image.proofs.Standing.{size_all, size-append, length-pieces}
 use Rattle.asm_image.proofs.Sizes.{size-headers, size-segments, length-segments, length-table, after-all-above}
@@ -16,13 +16,13 @@ abbrev pub end_of_segments : Program → ℕ
 end_of_segments p = after_all (front_of p) p.segments
 
 -- the headers are those of the segments, and then the table's
-pub headers-are : (p : Program) → headers_of p ≡ segment_headers (front_of p) p.segments ++ table_headers (end_of_segments p) p.relocations
-unfolding headers_of
+pub headers-are : (p : Program) → program_headers p ≡ segment_headers (front_of p) p.segments ++ table_headers (end_of_segments p) p.relocations
+unfolding program_headers
 headers-are p = refl
 
 -- and they are as many as the file header says
-pub count-is : (p : Program) → length (headers_of p) ≡ count_of p
-unfolding headers_of count_of
+pub count-is : (p : Program) → length (program_headers p) ≡ count_of p
+unfolding program_headers count_of
 count-is p =
     omega (
       arith,
@@ -53,9 +53,9 @@ length-file p =
     omega (
       arith,
       length-pieces (pieces_of p),
-      size-append (flat_map header_pieces (headers_of p)) (tail_of p),
+      size-append (flat_map header_pieces (program_headers p)) (tail_of p),
       size-append (segment_pieces (front_of p) p.segments) (table_pieces (end_of_segments p) p.relocations),
-      size-headers (headers_of p),
+      size-headers (program_headers p),
       count-is p,
       size-segments (front_of p) p.segments,
     )

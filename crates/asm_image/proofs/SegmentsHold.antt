@@ -6,7 +6,7 @@ use Rattle.cap_format.specs.Numbers.{program_header_bytes}
 use Rattle.cap_format.specs.Rules.{AllHold}
 use Rattle.cap_format.specs.Image.{is_segment, segment_rules, headers_rules, covers, covers_code, entry_rules}
 use Rattle.cap_format.specs.declared.image.ProgramHeader.{ProgramHeader}
-use Rattle.asm_image.specs.Program.{Segment, end_of, holds_place, holds_code, segment_header, segment_headers, after, after_all}
+use Rattle.asm_image.specs.Program.{Segment, segment_end, holds_place, holds_code, segment_header, segment_headers, after, after_all}
 use Rattle.asm_image.specs.Sound.{IsSegment, AreSegments}
 use Rattle.asm_image.proofs.Holding.{hold-append}
 use Rattle.asm_image.proofs.Sizes.{after-all-above}
@@ -39,7 +39,7 @@ segments-hold n past at h [] tail are within others = others past h
 segments-hold n past at h (segment ∷ segments) tail (here, there) within others =
     hold-append (segment_rules n past h (segment_header at segment)) _
     (segment-holds n past at h segment here (omega (arith, after-all-above (after at segment) segments)))
-    (segments-hold n (end_of segment) (after at segment) (h + program_header_bytes) segments tail there within others)
+    (segments-hold n (segment_end segment) (after at segment) (h + program_header_bytes) segments tail there within others)
 
 or-right : (a b c : Bool) → (b ≡ true → c ≡ true) → (a || b) ≡ true → (a || c) ≡ true
 or-right true b c more either = refl

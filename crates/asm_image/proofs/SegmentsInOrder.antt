@@ -6,7 +6,7 @@ use Rattle.std.proofs.lemmas.List.Elements.{All-head, All-tail}
 use Rattle.asm_text.specs.declared.listing.Item.{Item}
 use Rattle.asm_text.specs.Ranges.{HasRanges}
 use Rattle.asm_image.specs.declared.place.OpenSegment.{OpenSegment}
-use Rattle.asm_image.specs.Program.{Segment, end_of}
+use Rattle.asm_image.specs.Program.{Segment, segment_end}
 use Rattle.asm_image.specs.Sound.{IsSegment, AreSegments}
 use Rattle.asm_image.specs.Places.{begun_by, open_by, open_after}
 use Rattle.asm_image.specs.Faults.{AllMet}
@@ -36,7 +36,7 @@ closed past current bytes is size (some, none) = record {
 }
 
 -- the end of its pages
-end-same : (current : OpenSegment) (bytes : List ℕ) → length bytes ≡ current.size → past_of (Some current) ≡ end_of (segment_of current bytes)
+end-same : (current : OpenSegment) (bytes : List ℕ) → length bytes ≡ current.size → past_of (Some current) ≡ segment_end (segment_of current bytes)
 end-same current bytes size = rw size refl
 
 -- the others are in order behind the segment that ends, if one does

@@ -146,8 +146,8 @@ module _ (text : List ℕ) (offsets : Offsets) where
       any-behind _ new current bytes _ (stands (count_by count new) (open_after text first current) (bytes_by text offsets first.what new current bytes) before item after content
       (kept-next first.what new current bytes (begun-kept first.line first.what) kept) (met-right (rules_by text count first new current) _ m))
 
--- the rules on places are met where there is no fault
-places-met : (text : List ℕ) (items : List Item) → fault_of text items ≡ None → AllMet (places_rules text 0 None items)
+-- The rules on places are met where there is no fault.
+pub places-met : (text : List ℕ) (items : List Item) → fault_of text items ≡ None → AllMet (places_rules text 0 None items)
 unfolding fault_of
 places-met text items none =
     met-left (places_rules text 0 None items) (names_rules text [] false items)

@@ -9,7 +9,7 @@ use Rattle.asm_text.specs.declared.source.SourceReason.TheVariants.{BadText, Bad
 use Rattle.asm_text.specs.declared.source.SourceFault.{SourceFault}
 use Rattle.asm_text.specs.declared.listing.Item.{Item}
 use Rattle.asm_text.specs.Source.{fault, source_of}
-use Rattle.asm_image.specs.Program.{Segment, Program, headers_of}
+use Rattle.asm_image.specs.Program.{Segment, Program, program_headers}
 use Rattle.asm_image.specs.Assembled.{program_of, fault_of, place_fault, file_from}
 
 -- a text is refused at a line
@@ -47,7 +47,7 @@ program_from text = program_by text (source_of text)
 -- the program headers of that program
 abbrev pub headers_by : Option Program → List ProgramHeader
 headers_by None = []
-headers_by (Some program) = headers_of program
+headers_by (Some program) = program_headers program
 
 abbrev pub headers_from : List ℕ → List ProgramHeader
 headers_from text = headers_by (program_from text)

@@ -1,5 +1,5 @@
 -- Laws of the assembler, in plain sentences: each is the contract of a function of this crate.
-use Rattle.std.specs.Prelude.{◌≡◌, ◌↔◌, ℕ, ◌+◌, ◌-◌, ◌*◌, ◌^◌, ◌<◌, ◌≤◌, ℤ, pos, ◌+ℤ◌, ◌≤ℤ◌, ◌<ℤ◌, true, Option, None, Ok, List, [], ◌∷◌, ◌++◌, Any, length, take, drop, map, flat_map}
+use Rattle.std.specs.Prelude.{◌≡◌, ◌↔◌, ℕ, ◌+◌, ◌-◌, ◌*◌, ◌^◌, ◌<◌, ◌≤◌, ℤ, pos, ◌+ℤ◌, ◌≤ℤ◌, ◌<ℤ◌, true, Option, None, Ok, List, [], ◌∷◌, ◌++◌, Any, length, take, drop, map, flat_map, sum_by}
 use Rattle.std.specs.List.{All, AllZip}
 use Rattle.std.specs.Int.{int_rem_euclid}
 use Rattle.cap_format.specs.Image.{IsImage, segments_of, relocations_of, entry_of}
@@ -12,10 +12,10 @@ use Rattle.asm_text.specs.declared.listing.Item.{Item}
 use Rattle.asm_text.specs.Ranges.{HasRegisters}
 use Rattle.asm_text.specs.Source.{source_of}
 use Rattle.asm_image.specs.declared.place.OpenSegment.{OpenSegment}
-use Rattle.asm_image.specs.Program.{Segment, Program, size_of, file_of}
+use Rattle.asm_image.specs.Program.{Segment, Program, segment_size, file_of}
 use Rattle.asm_image.specs.Sound.{IsProgram}
 use Rattle.asm_image.specs.Places.{natural, bss_of, place_in, open_after}
-use Rattle.asm_image.specs.Labels.{offsets_in}
+use Rattle.asm_image.specs.Labels.{Offsets, offsets_in}
 use Rattle.asm_image.specs.Values.{fits_data, fits_instr, with_immediate, HasSign, data_bytes, item_bytes}
 use Rattle.asm_image.specs.Rules.{is_content}
 use Rattle.asm_image.specs.Assembled.{segments_in, program_of, fault_of, assembled}
@@ -29,7 +29,7 @@ pub record Holds (file : List ℕ) (header : ProgramHeader) (segment : Segment) 
   pub start : header.start ≡ segment.start
   pub rights : header.flags ≡ segment.rights
   pub in_file : header.in_file ≡ length segment.bytes
-  pub in_memory : header.in_memory ≡ size_of segment
+  pub in_memory : header.in_memory ≡ segment_size segment
   pub bytes : take header.in_file (drop header.from file) ≡ segment.bytes
 
 -- The image of a program holds its segments, its relocations and its entry, in their order, and nothing else.
@@ -76,11 +76,16 @@ abbrev pub open_behind : List ℕ → Option OpenSegment → List Item → Optio
 open_behind text current [] = current
 open_behind text current (item ∷ items) = open_behind text (open_after text item current) items
 
+-- the bytes of items one after another, each at its place, behind the segment that is open before them
+abbrev pub said_bytes : List ℕ → Offsets → Option OpenSegment → List Item → List ℕ
+said_bytes text offsets current [] = []
+said_bytes text offsets current (item ∷ items) = item_bytes text offsets (place_in current) item.what ++ said_bytes text offsets (open_after text item current) items
+
 -- A segment has these bytes from a place in the region on, and room behind them for so many that are not in the file.
 pub record HasContentAt (place : ℕ) (bytes : List ℕ) (bss : ℕ) (segment : Segment) : Type 0 where
   pub start : segment.start ≤ place
   pub bytes_there : take (length bytes) (drop (place - segment.start) segment.bytes) ≡ bytes
-  pub room : place + (length bytes + bss) ≤ segment.start + size_of segment
+  pub room : place + (length bytes + bss) ≤ segment.start + segment_size segment
 
 -- a statement of a listing stands at a place
 abbrev pub StandsAt : List ℕ → List Item → ℕ → What → Type 0
@@ -101,3 +106,11 @@ said_segment _ = []
 abbrev pub SegmentsAreSaid : Type 0
 SegmentsAreSaid = (text : List ℕ) (items : List Item)
     → map (λ segment. (segment.start, segment.rights)) (segments_in text items) ≡ flat_map (λ item. said_segment item.what) items
+
+-- The segments of a listing have the bytes of its statements, one after another, and the bytes behind the file's part, and no others.
+pub record HaveStatements (text : List ℕ) (items : List Item) (segments : List Segment) : Type 0 where
+  pub bytes : flat_map (λ segment. segment.bytes) segments ≡ said_bytes text (offsets_in text items) None items
+  pub bss : sum_by (λ segment. segment.bss) segments ≡ sum_by (λ item. bss_of item.what) items
+
+abbrev pub SegmentsHaveStatements : Type 0
+SegmentsHaveStatements = (text : List ℕ) (items : List Item) → fault_of text items ≡ None → HaveStatements text items (segments_in text items)

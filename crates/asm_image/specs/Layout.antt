@@ -31,8 +31,8 @@ closed_from text current [] = closed current
 closed_from text current (item ∷ items) = closed_by (begun_by item) current ++ closed_from text (open_after text item current) items
 
 -- how many segments have begun, of which some are at their ends
-abbrev pub count_of : List OpenSegment → Option OpenSegment → ℕ
-count_of ended current = length ended + (if is_some current then 1 else 0)
+abbrev pub begun_count : List OpenSegment → Option OpenSegment → ℕ
+begun_count ended current = length ended + (if is_some current then 1 else 0)
 
 -- behind so many items a place is a number of 127 bits
 abbrev pub IsBounded : ℕ → Option OpenSegment → Type 0

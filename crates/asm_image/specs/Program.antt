@@ -21,15 +21,15 @@ pub record Program : Type 0 where
   pub entry : ℕ
 
 -- the bytes of a segment in the region, and the end of its pages
-abbrev pub size_of : Segment → ℕ
-size_of segment = length segment.bytes + segment.bss
+abbrev pub segment_size : Segment → ℕ
+segment_size segment = length segment.bytes + segment.bss
 
-abbrev pub end_of : Segment → ℕ
-end_of segment = up_to (segment.start + size_of segment) page_bytes
+abbrev pub segment_end : Segment → ℕ
+segment_end segment = up_to (segment.start + segment_size segment) page_bytes
 
 -- a place in the region is on a page of the segment
 abbrev pub holds_place : ℕ → Segment → Bool
-holds_place place segment = nat_le segment.start place && nat_lt place (end_of segment)
+holds_place place segment = nat_le segment.start place && nat_lt place (segment_end segment)
 
 -- the same, of a segment that may be executed
 abbrev pub holds_code : ℕ → Segment → Bool
@@ -47,7 +47,7 @@ segment_header at segment = record {
   from = up_to at page_bytes;
   start = segment.start;
   in_file = length segment.bytes;
-  in_memory = size_of segment;
+  in_memory = segment_size segment;
 }
 
 -- where the file stands after a segment's bytes, and after those of all segments
@@ -112,14 +112,14 @@ unfoldable pub front_of : Program → ℕ
 front_of p = file_header_bytes + program_header_bytes * count_of p
 
 -- the program headers in their order
-unfoldable pub headers_of : Program → List ProgramHeader
-headers_of p = segment_headers (front_of p) p.segments ++ table_headers (after_all (front_of p) p.segments) p.relocations
+unfoldable pub program_headers : Program → List ProgramHeader
+program_headers p = segment_headers (front_of p) p.segments ++ table_headers (after_all (front_of p) p.segments) p.relocations
 
 -- the file: its header, the program headers, the segments and the table
 abbrev pub pieces_of : Program → List Piece
 pieces_of p =
     file_header p.entry (count_of p)
-    ++ (flat_map header_pieces (headers_of p)
+    ++ (flat_map header_pieces (program_headers p)
     ++ (segment_pieces (front_of p) p.segments
     ++ table_pieces (after_all (front_of p) p.segments) p.relocations))
 

@@ -6,7 +6,7 @@ use Rattle.cap_format.specs.Numbers.{region_bytes, page_bytes, granule_bytes, al
 use Rattle.cap_format.specs.Region.{region_start}
 use Rattle.cap_format.specs.SetBounds.{is_exact}
 use Rattle.cap_format.specs.declared.image.Relocation.{Relocation}
-use Rattle.asm_image.specs.Program.{Segment, Program, size_of, end_of, holds_place, holds_code}
+use Rattle.asm_image.specs.Program.{Segment, Program, segment_size, segment_end, holds_place, holds_code}
 
 -- a segment behind others, whose pages end at `past`
 pub record IsSegment (past : ℕ) (segment : Segment) : Type 0 where
@@ -14,12 +14,12 @@ pub record IsSegment (past : ℕ) (segment : Segment) : Type 0 where
   pub rights : segment.rights ≤ 7
   pub aligned : segment.start % page_bytes ≡ 0
   pub behind : past ≤ segment.start
-  pub some : 1 ≤ size_of segment
-  pub inside : segment.start + size_of segment ≤ region_bytes
+  pub some : 1 ≤ segment_size segment
+  pub inside : segment.start + segment_size segment ≤ region_bytes
 
 abbrev pub AreSegments : ℕ → List Segment → Type 0
 AreSegments past [] = Unit {0}
-AreSegments past (segment ∷ segments) = IsSegment past segment × AreSegments (end_of segment) segments
+AreSegments past (segment ∷ segments) = IsSegment past segment × AreSegments (segment_end segment) segments
 
 -- a relocation, whose place is not below `least`
 pub record IsRelocation (segments : List Segment) (least : ℕ) (relocation : Relocation) : Type 0 where

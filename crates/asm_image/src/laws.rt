@@ -1,7 +1,7 @@
 // Laws of the assembler: each is a function that states one, does nothing and takes nothing.
 ghost use Rattle.asm_image.specs.Numbers.{ConstantsAreFixed};
 ghost use Rattle.asm_image.specs.Faults.{LeastFaultsDecide};
-ghost use Rattle.asm_image.specs.Laws.{FilesAreImages, FilesAreExact, SourcesArePrograms, SourcesAreImages, StatementsStandAtPlaces, SegmentsAreSaid, RangesAreTheTables, DataIsExact};
+ghost use Rattle.asm_image.specs.Laws.{FilesAreImages, FilesAreExact, SourcesArePrograms, SourcesAreImages, StatementsStandAtPlaces, SegmentsAreSaid, SegmentsHaveStatements, RangesAreTheTables, DataIsExact};
 ghost use Rattle.asm_image.specs.Examples.{WorkedSourcesHold};
 
 use asm_text::sources_have_ranges;
@@ -50,6 +50,11 @@ pub fn statements_stand()
 /// The segments of a listing are those that its `.segment` statements say, in their order, each with that place and those rights.
 pub fn segments_are_said()
     ensures { SegmentsAreSaid }
+{}
+
+/// The segments of a listing without a fault have just the bytes of its statements, one after another, and just their bytes of `.bss`.
+pub fn segments_are_full()
+    ensures { SegmentsHaveStatements }
 {}
 
 /// Sources that were worked out by hand come to that.

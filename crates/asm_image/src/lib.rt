@@ -19,8 +19,8 @@ mod values;
 pub use assembler::assemble;
 pub use laws::{
     constants_are_fixed, data_is_exact, files_are_exact, files_are_images, least_faults_decide,
-    ranges_are_exact, segments_are_said, sources_are_images, sources_are_programs,
-    statements_stand, worked_sources_hold,
+    ranges_are_exact, segments_are_full, segments_are_said, sources_are_images,
+    sources_are_programs, statements_stand, worked_sources_hold,
 };
 
 #[cfg(test)]

@@ -6,13 +6,13 @@ use Rattle.asm_text.specs.Lines.{lexed}
 use Rattle.asm_text.specs.Source.{line_of, source_of}
 use Rattle.asm_image.specs.Places.{string_of}
 use Rattle.asm_image.specs.Pieces.{piece_bytes}
-use Rattle.asm_image.specs.Program.{count_of, front_of, headers_of, file_of}
+use Rattle.asm_image.specs.Program.{count_of, front_of, program_headers, file_of}
 use Rattle.asm_image.specs.Assembled.{program_of, fault_of, assembled, file_from}
 use Rattle.cap_format.specs.SetBounds.{bounded_base, bounded_top, first_enough}
 use Rattle.asm_image.proofs.laws.worked_sources_hold.Goals as goal
 
 pub returns : goal.returns
-unfolding offsets_in source_of line_of lexed lexeme_length string_of piece_bytes count_of front_of headers_of file_of program_of fault_of assembled file_from bounded_base bounded_top first_enough
+unfolding offsets_in source_of line_of lexed lexeme_length string_of piece_bytes count_of front_of program_headers file_of program_of fault_of assembled file_from bounded_base bounded_top first_enough
 returns c = record {
   places = record {
     label_before_segments = refl;

@@ -2,7 +2,7 @@
 use Rattle.std.proofs.Common.{◌≡◌, ◌+◌, ◌^◌, ◌<◌, ◌++◌, arith}
 use Rattle.std.proofs.lemmas.Grind.{common_steps}
 use Rattle.asm_image.specs.Places.{begun_by}
-use Rattle.asm_image.specs.Layout.{closed_by, count_of}
+use Rattle.asm_image.specs.Layout.{closed_by, begun_count}
 use Rattle.asm_image.proofs.ItemsLeft.{left-at}
 use Rattle.asm_image.proofs.ListingItems.{ranges-at, small-at}
 use Rattle.asm_image.proofs.LaidOut.{segments-behind, found-behind}
@@ -27,7 +27,7 @@ loop-at-preserved c =
     let l = c.loop-at in
     let rest = left-at c.args.listing.now l.at c.item-item.result c.item-item.ensures in
     let keeps : c.close_before.new.segments.items ≡ l.segments.items ++ closed_by (begun_by c.item-item.result) l.current = c.in_ok-close_before.ensures in
-    let counts : c.len.result + c.from.result ≡ count_of l.segments.items l.current = grind (arith, common_steps) in
+    let counts : c.len.result + c.from.result ≡ begun_count l.segments.items l.current = grind (arith, common_steps) in
     record {
       segments = segments-behind _ _ _ _ _ _ _ _ _ rest keeps c.open_after-current.ensures.is l.invariant.segments;
       found = found-behind _ _ _ _ _ _ _ _ _ _ _ _ rest keeps c.open_after-current.ensures.is counts c.need_place.ensures l.invariant.found;
