@@ -1,11 +1,11 @@
 -- Words begin a command exactly where further words make them one.
-use Rattle.std.proofs.Common.{◌≡◌, refl, Bool, true, false, ◌||◌, List, [], ◌∷◌, ◌++◌, Option, Some, None, inl, inr}
-use Rattle.std.specs.Prelude.{codes, bytes_eq, is_some}
-use Rattle.std.proofs.lemmas.Bool.{cases_Bool, false≢true, and_parts, and_from, or_right}
+use Rattle.std.proofs.Common.{◌≡◌, ◌∙◌, sym, refl, Bool, true, false, ◌||◌, List, [], ◌∷◌, ◌++◌, Option, Some, None}
+use Rattle.std.specs.Prelude.{codes, is_some}
+use Rattle.std.proofs.lemmas.Bool.{false≢true, and_parts, and_from, or_right}
 use Rattle.command_words.specs.Grammar.{Word, Kind, OptionRow, CommandRow, is_file_name, option_named, options_but, are_operands, begin_operands, by_option}
 use Rattle.command_words.specs.Grammar.{are_arguments, begin_arguments, command_named, has_arguments, begins_arguments, is_command, begins_command}
 use Rattle.command_words.proofs.Tables.{AreRows, found-row, rows-but}
-use Rattle.command_words.proofs.RunTable.{run-rows}
+use Rattle.command_words.proofs.CommandTable.{run-row, command-row, is-by-row, begins-by-row, no-row-begins}
 
 -- words that are operands begin operands, and so do the first of them
 operands-begin : (kinds : List Kind) (words more : List Word) → are_operands kinds (words ++ more) ≡ true → begin_operands kinds words ≡ true
@@ -80,14 +80,16 @@ completed options (word ∷ []) known begins = completed-word options word (opti
 completed options (word ∷ value ∷ words) known begins =
     completed-step options word value words (option_named options word) refl (completed (options_but options word) words (rows-but options word known)) begins
 
+-- words that begin the arguments of a row that is found are completed by further words
+row-completed : (word : Word) (words : List Word) (found : Option CommandRow) → command_named word ≡ found → begins_command (word ∷ words) ≡ true
+    → (more : List Word) × (is_command (word ∷ (words ++ more)) ≡ true)
+row-completed word words None none begins = absurd (false≢true (sym (no-row-begins word words none) ∙ begins))
+row-completed word words (Some row) found begins =
+    let known = (command-row word row found).0 in
+    let more = completed row.options words known.options (sym (begins-by-row word words row found) ∙ begins) in
+    (more.0, is-by-row word (words ++ more.0) row found ∙ more.1)
+
 -- words that begin a command are completed by further words
 pub command-completed : (words : List Word) → begins_command words ≡ true → (more : List Word) × (is_command (words ++ more) ≡ true)
-unfolding is_command begins_command
-command-completed [] begins = (codes "run" ∷ codes "a" ∷ [], refl)
-command-completed (word ∷ words) begins = elim (cases_Bool (bytes_eq (codes "run") word)) [
-  | inl same ↦
-      let begin : begin_arguments _ (is_file_name ∷ []) words ≡ true = rw same at begins in
-      let more = completed _ words run-rows begin in
-      (more.0, rw same more.1)
-  | inr other ↦ let none : false ≡ true = rw other at begins in absurd (false≢true none)
-]
+command-completed [] begins = (codes "run" ∷ codes "a" ∷ [], is-by-row (codes "run") (codes "a" ∷ []) run-row refl)
+command-completed (word ∷ words) begins = row-completed word words (command_named word) refl begins

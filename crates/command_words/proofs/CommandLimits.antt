@@ -1,5 +1,5 @@
 -- A command that was read is within the limits.
-use Rattle.std.proofs.Common.{◌≡◌, sym, refl, subst, ℕ, ◌-◌, ◌<◌, ◌≤◌, true, false, List, [], ◌∷◌, length, Option, Some, None, Result, Ok, Err, arith}
+use Rattle.std.proofs.Common.{◌≡◌, sym, refl, subst, ℕ, ◌-◌, ◌<◌, ◌≤◌, true, false, List, [], ◌∷◌, length, Option, Some, None, Result, Ok, Err, inl, inr, arith}
 use Rattle.std.specs.Prelude.{codes, is_some, IfSome, IfOk}
 use Rattle.std.proofs.lemmas.Bool.{false≢true}
 use Rattle.std.proofs.lemmas.Option.{IfSome_then}
@@ -11,10 +11,10 @@ use Rattle.command_words.specs.declared.words.Command.{Command}
 use Rattle.command_words.specs.declared.words.WordFault.{WordFault}
 use Rattle.command_words.specs.Numbers.{default_frames, default_regions, default_slots, default_steps}
 use Rattle.command_words.specs.Grammar.{Word, is_number, is_file_name, frames_name, regions_name, slots_name, steps_name, schedule_name, option_named, run_options, are_arguments}
-use Rattle.command_words.specs.Commands.{word_behind, place_behind, number_or, config_of, command_of, read_of}
+use Rattle.command_words.specs.Commands.{word_behind, place_behind, number_or, config_of, options_of, command_of, read_of}
 use Rattle.command_words.specs.Sayings.{IsWithinLimits, IsCommandOf}
 use Rattle.command_words.proofs.RunTable.{run-rows}
-use Rattle.command_words.proofs.RunArguments.{arguments-of, command-parts}
+use Rattle.command_words.proofs.RunArguments.{ToolArguments, arguments-of, command-parts}
 use Rattle.command_words.proofs.ValuesBehind.{IsOfKind, value-behind, place-before}
 
 -- the number that a word is, where it is one of a range
@@ -76,13 +76,18 @@ schedule-before arguments are =
 run-of-words : (arguments : List Word) → are_arguments run_options (is_file_name ∷ []) arguments ≡ true → IsCommandOf (length (codes "run" ∷ arguments)) (command_of (codes "run" ∷ arguments))
 run-of-words arguments are = (config-within arguments are, omega arith, schedule-before arguments are)
 
+-- what a tool's name and a file's say is a command of so many words
+tool-of-words : (words : List Word) → ToolArguments words → IsCommandOf (length words) (command_of words)
+tool-of-words words tool = subst (λ (x : List Word). IsCommandOf (length x) (command_of x)) (sym tool.is) (tool.known.within (options_of (tool.tool ∷ tool.name ∷ [])))
+
 -- A command that words are read as is one of so many words.
 pub command-of-words : (words : List Word) (command : Command) → read_of words ≡ Ok command → IsCommandOf (length words) command
 command-of-words words command read =
     let parts = command-parts words command read in
-    let run = arguments-of words parts.0 in
-    let said = subst (λ (x : List Word). IsCommandOf (length x) (command_of x)) (sym run.is) (run-of-words run.arguments run.are) in
-    subst (IsCommandOf (length words)) parts.1 said
+    subst (IsCommandOf (length words)) parts.1 (elim (arguments-of words parts.0) [
+      | inl run ↦ subst (λ (x : List Word). IsCommandOf (length x) (command_of x)) (sym run.is) (run-of-words run.arguments run.are)
+      | inr tool ↦ tool-of-words words tool
+    ])
 
 -- the same of what words are read as, where it is a command
 pub read-of-words : (words : List Word) (read : Result Command WordFault) → read ≡ read_of words → IfOk read (λ command. IsCommandOf (length words) command)

@@ -22,15 +22,15 @@ pub record IsFirst (left : List OptionRow) (words : List Word) (place : ℕ) : T
   pub at : place ≤ length words → begin-whole left (take place words) ≡ false
 
 -- the first fault of arguments is what they are read as
-pub record ReadFault (left : List OptionRow) (options : Options) (at : ℕ) (words : List Word) : Type 0 where
+pub record ReadFault (command : Word) (left : List OptionRow) (options : Options) (at : ℕ) (words : List Word) : Type 0 where
   pub place : ℕ
-  pub read : read_from left options at words ≡ fault_at (at + place)
+  pub read : read_from command left options at words ≡ fault_at (at + place)
   pub first : IsFirst left words place
 
 -- no words are at fault behind them
-no-words : (left : List OptionRow) (options : Options) (at : ℕ) → ReadFault left options at []
+no-words : (command : Word) (left : List OptionRow) (options : Options) (at : ℕ) → ReadFault command left options at []
 unfolding read_from
-no-words left options at = record {
+no-words command left options at = record {
   place = 1;
   read = refl;
   first = record { some = omega arith; within = omega arith; before = λ k small. (let none : k ≡ 0 = omega arith in rw none refl); at = λ within. absurd (omega arith) };
@@ -90,24 +90,24 @@ behind-option left word value words row place is fits first = record {
     before (suc (suc k)) small = rw (is, fits) (first.before k (omega arith))
 
 -- one word that is no file name is at fault, or it is an option that lacks its value
-one-word : (left : List OptionRow) (options : Options) (at : ℕ) (word : Word) (found : Option OptionRow) → option_named left word ≡ found → is_file_name word ≡ false
-    → ReadFault left options at (word ∷ [])
+one-word : (command : Word) (left : List OptionRow) (options : Options) (at : ℕ) (word : Word) (found : Option OptionRow) → option_named left word ≡ found → is_file_name word ≡ false
+    → ReadFault command left options at (word ∷ [])
 unfolding read_from read_last
-one-word left options at word None is other = record {
+one-word command left options at word None is other = record {
   place = 1;
   read = rw (is, other) refl;
   first = first-word left word [] (rw (is, other) refl);
 }
-one-word left options at word (Some row) is other = record {
+one-word command left options at word (Some row) is other = record {
   place = 2;
   read = rw is refl;
   first = behind-word left word (rw is refl);
 }
 
 -- two words that begin with no option are at fault
-two-words : (left : List OptionRow) (options : Options) (at : ℕ) (word value : Word) (words : List Word) → option_named left word ≡ None → ReadFault left options at (word ∷ value ∷ words)
+two-words : (command : Word) (left : List OptionRow) (options : Options) (at : ℕ) (word value : Word) (words : List Word) → option_named left word ≡ None → ReadFault command left options at (word ∷ value ∷ words)
 unfolding read_from read_last
-two-words left options at word value words is = elim (cases_Bool (is_file_name word)) [
+two-words command left options at word value words is = elim (cases_Bool (is_file_name word)) [
   | inl file ↦ record {
     place = 2;
     read = rw (is, file) refl;
@@ -121,13 +121,13 @@ two-words left options at word value words is = elim (cases_Bool (is_file_name w
 ]
 
 -- the value of an option is at fault, or what is behind it
-option-words : (left : List OptionRow) (options : Options) (at : ℕ) (word value : Word) (words : List Word) (row : OptionRow) → option_named left word ≡ Some row
-    → (are-whole (options_but left word) words ≡ false → ReadFault (options_but left word) (put options (at + 1) word value) (at + 2) words)
-    → row.value value && are-whole (options_but left word) words ≡ false → ReadFault left options at (word ∷ value ∷ words)
+option-words : (command : Word) (left : List OptionRow) (options : Options) (at : ℕ) (word value : Word) (words : List Word) (row : OptionRow) → option_named left word ≡ Some row
+    → (are-whole (options_but left word) words ≡ false → ReadFault command (options_but left word) (put options (at + 1) word value) (at + 2) words)
+    → row.value value && are-whole (options_but left word) words ≡ false → ReadFault command left options at (word ∷ value ∷ words)
 unfolding read_from
-option-words left options at word value words row is behind aren't = elim (cases_Bool (row.value value)) [
+option-words command left options at word value words row is behind aren't = elim (cases_Bool (row.value value)) [
   | inl fits ↦
-      let rest : ReadFault (options_but left word) (put options (at + 1) word value) (at + 2) words = behind (rw fits at aren't) in
+      let rest : ReadFault command (options_but left word) (put options (at + 1) word value) (at + 2) words = behind (rw fits at aren't) in
       let index : at + 2 + rest.place ≡ at + suc (suc rest.place) = omega arith in
       record {
         place = suc (suc rest.place);
@@ -142,19 +142,19 @@ option-words left options at word value words row is behind aren't = elim (cases
 ]
 
 -- words that begin with a word and its value are at fault
-more-words : (left : List OptionRow) (options : Options) (at : ℕ) (word value : Word) (words : List Word) (found : Option OptionRow) → option_named left word ≡ found
-    → (are-whole (options_but left word) words ≡ false → ReadFault (options_but left word) (put options (at + 1) word value) (at + 2) words)
-    → by_option found value (are-whole (options_but left word) words) (is_file_name word && false) ≡ false → ReadFault left options at (word ∷ value ∷ words)
-more-words left options at word value words None is behind aren't = two-words left options at word value words is
-more-words left options at word value words (Some row) is behind aren't = option-words left options at word value words row is behind aren't
+more-words : (command : Word) (left : List OptionRow) (options : Options) (at : ℕ) (word value : Word) (words : List Word) (found : Option OptionRow) → option_named left word ≡ found
+    → (are-whole (options_but left word) words ≡ false → ReadFault command (options_but left word) (put options (at + 1) word value) (at + 2) words)
+    → by_option found value (are-whole (options_but left word) words) (is_file_name word && false) ≡ false → ReadFault command left options at (word ∷ value ∷ words)
+more-words command left options at word value words None is behind aren't = two-words command left options at word value words is
+more-words command left options at word value words (Some row) is behind aren't = option-words command left options at word value words row is behind aren't
 
 -- arguments that are no command are read as their first fault
-pub fault-read : (left : List OptionRow) (options : Options) (at : ℕ) (words : List Word) → are-whole left words ≡ false → ReadFault left options at words
-fault-read left options at [] aren't = no-words left options at
-fault-read left options at (word ∷ []) aren't = one-word left options at word (option_named left word) refl (not-operand (is_file_name word) aren't)
+pub fault-read : (command : Word) (left : List OptionRow) (options : Options) (at : ℕ) (words : List Word) → are-whole left words ≡ false → ReadFault command left options at words
+fault-read command left options at [] aren't = no-words command left options at
+fault-read command left options at (word ∷ []) aren't = one-word command left options at word (option_named left word) refl (not-operand (is_file_name word) aren't)
   where
     not-operand : (file : Bool) → file && true ≡ false → file ≡ false
     not-operand false is = refl
     not-operand true is = is
-fault-read left options at (word ∷ value ∷ words) aren't = more-words left options at word value words (option_named left word) refl
-    (fault-read (options_but left word) (put options (at + 1) word value) (at + 2) words) aren't
+fault-read command left options at (word ∷ value ∷ words) aren't = more-words command left options at word value words (option_named left word) refl
+    (fault-read command (options_but left word) (put options (at + 1) word value) (at + 2) words) aren't

@@ -1,6 +1,7 @@
 pub mod Reader
 pub mod Tables
 pub mod RunTable
+pub mod CommandTable
 pub mod Beginnings
 pub mod Places
 pub mod OptionsSaid

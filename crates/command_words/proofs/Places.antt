@@ -18,7 +18,7 @@ fault-from words place (suc left) whole before = elim (cases_Bool (begins_comman
 ]
 
 -- words that are none begin a command
-none-begins : begins_command [] ≡ true
+pub none-begins : begins_command [] ≡ true
 unfolding begins_command
 none-begins = refl
 

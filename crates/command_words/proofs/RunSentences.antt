@@ -1,21 +1,24 @@
--- A command is what the sentences say: `run`, options of different names with their values, and a file name.
-use Rattle.std.proofs.Common.{◌≡◌, ◌≢◌, ◌∙◌, sym, ap, refl, subst, ℕ, Bool, true, false, cond, List, [], ◌∷◌, ◌++◌, Option, Some, None, inl, inr}
+-- A command is what the sentences say: `run`, options of different names with their values, and a file name, or a tool's name and a file name.
+use Rattle.std.proofs.Common.{◌≡◌, ◌≢◌, ◌∙◌, sym, ap, refl, subst, ◌⊎◌, ℕ, Bool, true, false, cond, List, [], ◌∷◌, ◌++◌, Option, Some, None, Ok, inl, inr}
 use Rattle.std.specs.Prelude.{All, bytes_eq, codes, ◌==◌}
 use Rattle.std.proofs.lemmas.Bool.{false≢true, not-true, eqb-false, and_parts, both_ways}
 use Rattle.std.proofs.lemmas.List.Elements.{All-nil, All-cons}
 use Rattle.cap_format.specs.Numbers.{most_frames, most_regions}
 use Rattle.machine_types.specs.Numbers.{most_slots, most_steps}
 use Rattle.machine_types.proofs.DecimalTexts.{number-in-parts}
+use Rattle.command_words.specs.declared.words.Options.{Options}
+use Rattle.command_words.specs.declared.words.Command.TheVariants.{Run}
 use Rattle.command_words.specs.declared.words.OptionName.TheVariants.{Frames, Regions, Slots, Steps, Copy, Schedule}
 use Rattle.command_words.specs.Grammar.{Word, OptionRow, is_number, is_file_name, frames_name, regions_name, slots_name, steps_name, copy_name, schedule_name}
 use Rattle.command_words.specs.Grammar.{run_options, option_named, options_but, are_arguments, is_command}
+use Rattle.command_words.specs.Commands.{read_of}
 use Rattle.command_words.specs.Reading.{row_of}
-use Rattle.command_words.specs.Sayings.{IsNumber, IsFileName, IsOption, AreApart, option_words, IsRun}
+use Rattle.command_words.specs.Sayings.{IsNumber, IsFileName, IsOption, AreApart, option_words, IsRun, IsTool}
 use Rattle.command_words.specs.Sayings.AreApart.{none, more}
 use Rattle.command_words.proofs.Tables.{AreRows, rows-but, found-but, same-text, text-itself, taken}
 use Rattle.command_words.proofs.RunTable.{run-rows}
 use Rattle.command_words.proofs.OptionsSaid.{Lacks, lacks-gone}
-use Rattle.command_words.proofs.RunArguments.{first-option, arguments-of}
+use Rattle.command_words.proofs.RunArguments.{RunArguments, ToolArguments, first-option, arguments-of, run-arguments-of}
 use Rattle.command_words.proofs.CommandLimits.{number-of-word}
 
 -- a word that is a number of a range by the test is one
@@ -113,10 +116,9 @@ arguments-are left (word ∷ value ∷ words) known sentences are =
       words_are = ap (λ x. word ∷ value ∷ x) behind.words_are;
     }
 
--- A command is `run`, options and a file name.
-pub command-is-run : (words : List Word) → is_command words ≡ true → IsRun words
-command-is-run words is =
-    let run = arguments-of words is in
+-- `run` and its arguments are `run`, options and a file name
+run-is : (words : List Word) → RunArguments words → IsRun words
+run-is words run =
     let all = arguments-are run_options run.arguments run-rows run-sentences run.are in
     record {
       options = all.options;
@@ -126,3 +128,15 @@ command-is-run words is =
       file = all.file;
       words_are = run.is ∙ ap (λ x. codes "run" ∷ x) all.words_are;
     }
+
+-- a tool's name and a file's are what the sentences say
+tool-is : (words : List Word) → ToolArguments words → IsTool words
+tool-is words tool = record { tool = tool.tool; name = tool.name; which = tool.known.which; file = file-sentence tool.name tool.file; words_are = tool.is }
+
+-- A command is `run`, options and a file name, or a tool's name and a file name.
+pub command-is : (words : List Word) → is_command words ≡ true → IsRun words ⊎ IsTool words
+command-is words is = elim (arguments-of words is) [ inl run ↦ inl (run-is words run) | inr tool ↦ inr (tool-is words tool) ]
+
+-- What is read as `run` is `run`, options and a file name.
+pub read-is-run : (words : List Word) (options : Options) (image : ℕ) → read_of words ≡ Ok (Run options image) → IsRun words
+read-is-run words options image read = run-is words (run-arguments-of words options image read)

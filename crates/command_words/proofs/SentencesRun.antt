@@ -1,15 +1,21 @@
--- What the sentences say is a command: `run`, options of different names with their values, and a file name are one.
-use Rattle.std.proofs.Common.{◌≡◌, ◌≢◌, ◌∙◌, sym, ap, refl, ℕ, ◌^◌, ◌<◌, true, false, List, [], ◌∷◌, ◌++◌, slice_index_or, Some, inl, inr, arith}
+-- What the sentences say is a command: `run`, options of different names with their values, and a file name are one, and so are a tool's name and a
+-- file name.
+use Rattle.std.proofs.Common.{◌≡◌, ◌≢◌, ◌∙◌, sym, ap, refl, ℕ, ◌-◌, ◌^◌, ◌<◌, length, true, false, List, [], ◌∷◌, ◌++◌, slice_index_or, Some, Ok, inl, inr, arith}
 use Rattle.std.specs.Prelude.{All, bytes_eq, codes, is_some}
 use Rattle.std.proofs.lemmas.Bool.{false_from_ne_true, ne_eqb, and_from}
 use Rattle.std.proofs.lemmas.List.Elements.{All-head, All-tail, All-weaker}
 use Rattle.machine_types.proofs.DecimalTexts.{number-in-decimal}
+use Rattle.command_words.specs.declared.words.Options.{Options}
+use Rattle.command_words.specs.declared.words.Command.TheVariants.{Run}
 use Rattle.command_words.specs.declared.words.OptionName.TheVariants.{Frames, Regions, Slots, Steps, Copy, Schedule}
-use Rattle.command_words.specs.Grammar.{Word, OptionRow, is_number, is_file_name, run_options, option_named, options_but, are_arguments, is_command}
+use Rattle.command_words.specs.Grammar.{Word, OptionRow, is_number, is_file_name, run_options, option_named, options_but, tool, are_arguments, is_command}
+use Rattle.command_words.specs.Commands.{options_of, command_of, read_of}
 use Rattle.command_words.specs.Reading.{row_of}
-use Rattle.command_words.specs.Sayings.{IsNumber, IsFileName, IsOption, AreApart, option_words, IsRun}
+use Rattle.command_words.specs.Sayings.{IsNumber, IsFileName, IsOption, AreApart, option_words, IsRun, IsTool}
 use Rattle.command_words.specs.Sayings.AreApart.{none, more}
 use Rattle.command_words.proofs.Tables.{found-but, same-text}
+use Rattle.command_words.proofs.CommandTable.{NamesTool, tool-name, run-row, is-by-row}
+use Rattle.command_words.proofs.CommandsRead.{command-read-of}
 
 -- a number of a range is one by the test
 number-test : (least most : ℕ) (word : Word) → most < 2 ^ 64 → IsNumber least most word → is_number least most word ≡ true
@@ -55,14 +61,28 @@ are-arguments left (option ∷ options) name held (more others apart) file =
     let behind = are-arguments (options_but left option.0) options name still apart file in
     rw first.found (and_from (first.row.value option.1) _ first.fits behind)
 
--- arguments behind `run` are a command
-run-command : (arguments : List Word) → are_arguments run_options (is_file_name ∷ []) arguments ≡ true → is_command (codes "run" ∷ arguments) ≡ true
-unfolding is_command
-run-command arguments are = are
-
 -- `run`, options and a file name are a command.
 pub run-is-command : (words : List Word) → IsRun words → is_command words ≡ true
 run-is-command words run =
     let held = All-weaker IsOption (IsHeld run_options) run-holds run.options run.are in
     let are = are-arguments run_options run.options run.name held run.apart (file-test run.name run.file) in
-    rw run.words_are (run-command (option_words run.options ++ (run.name ∷ [])) are)
+    rw run.words_are (is-by-row (codes "run") (option_words run.options ++ (run.name ∷ [])) run-row refl ∙ are)
+
+-- a tool's name and a file name are a command
+named-is-command : (word name : Word) → NamesTool word → IsFileName name → is_command (word ∷ name ∷ []) ≡ true
+named-is-command word name which file =
+    is-by-row word (name ∷ []) (tool word) (tool-name word which).row ∙ and_from (is_file_name name) true (file-test name file) refl
+
+-- What the sentences say of a tool is a command.
+pub tool-is-command : (words : List Word) → IsTool words → is_command words ≡ true
+tool-is-command words is = rw is.words_are (named-is-command is.tool is.name is.which is.file)
+
+-- A tool's name and a file name are read as what they say.
+pub tool-read : (word name : Word) → NamesTool word → IsFileName name → read_of (word ∷ name ∷ []) ≡ Ok (command_of (word ∷ name ∷ []))
+tool-read word name which file = command-read-of (word ∷ name ∷ []) (named-is-command word name which file)
+
+-- `run`, options and a file name are read as `run`.
+pub run-read-as : (words : List Word) → IsRun words → (options : Options) × (image : ℕ) × (read_of words ≡ Ok (Run options image))
+run-read-as words run =
+    let said : command_of words ≡ Run (options_of words) (length words - 1) = rw run.words_are refl in
+    (options_of words, length words - 1, command-read-of words (run-is-command words run) ∙ ap Ok said)

@@ -24,13 +24,6 @@ same-text a b same = (bytes_eq-Decides a b).0 same
 pub text-itself : (a : Word) → bytes_eq a a ≡ true
 text-itself a = (bytes_eq-Decides a a).1 refl
 
--- texts that differ do so either way
-pub other-turned : (a b : Word) → bytes_eq a b ≡ false → bytes_eq b a ≡ false
-other-turned a b other = elim (cases_Bool (bytes_eq b a)) [
-  | inl same ↦ absurd (false≢true (sym other ∙ ap (bytes_eq a) (same-text b a same) ∙ text-itself a))
-  | inr differs ↦ differs
-]
-
 -- a file name is no name that isn't one
 pub other-text : (a b : Word) → is_file_name a ≡ true → is_file_name b ≡ false → bytes_eq a b ≡ false
 other-text a b file other = elim (cases_Bool (bytes_eq a b)) [

@@ -11,12 +11,12 @@ use Rattle.command_words.specs.declared.words.Command.{Command}
 use Rattle.command_words.specs.declared.words.Command.TheVariants.{Run}
 use Rattle.command_words.specs.Numbers.{default_frames, default_regions, default_slots, default_steps}
 use Rattle.command_words.specs.Grammar.{Word, is_number, is_file_name, frames_name, regions_name, slots_name, steps_name, schedule_name, option_named, run_options, are_arguments}
-use Rattle.command_words.specs.Commands.{word_behind, place_behind, number_or, options_of, read_of}
+use Rattle.command_words.specs.Commands.{word_behind, place_behind, number_or, options_of, command_of, read_of}
 use Rattle.command_words.specs.Sayings.{IsSaid}
 use Rattle.command_words.proofs.Tables.{same-text}
 use Rattle.command_words.proofs.RunTable.{run-rows}
 use Rattle.command_words.proofs.OptionsSaid.{Lacks, lacks-word, lacks-place}
-use Rattle.command_words.proofs.RunArguments.{arguments-of, command-parts}
+use Rattle.command_words.proofs.RunArguments.{command-parts, run-arguments-of}
 use Rattle.command_words.proofs.ValuesBehind.{IsOfKind, value-behind}
 use Rattle.command_words.proofs.CommandLimits.{number-of-word}
 use Rattle.command_words.proofs.NamesBefore.{words-lack, behind-first, place-first}
@@ -88,10 +88,10 @@ run-said arguments are = record {
 -- What a command says is what the sentences say of its words.
 pub command-said : (words : List Word) (options : Options) (image : ℕ) → read_of words ≡ Ok (Run options image) → IsSaid words options image
 command-said words options image read =
-    let parts = command-parts words (Run options image) read in
-    let run = arguments-of words parts.0 in
-    let said = subst (λ (x : List Word). IsSaid x (options_of x) (length x - 1)) (sym run.is) (run-said run.arguments run.are) in
-    let same : ◌≡◌ {A = Command} (Run (options_of words) (length words - 1)) (Run options image) = parts.1 in
-    let same-options : options_of words ≡ options = cc in
-    let same-image : length words - 1 ≡ image = cc in
-    subst (λ (x : ℕ). IsSaid words options x) same-image (subst (λ (x : Options). IsSaid words x (length words - 1)) same-options said)
+    let run = run-arguments-of words options image read in
+    let whole : List Word = codes "run" ∷ run.arguments in
+    let same : ◌≡◌ {A = Command} (Run (options_of whole) (length whole - 1)) (Run options image) = ap command_of (sym run.is) ∙ (command-parts words (Run options image) read).1 in
+    let same-options : options_of whole ≡ options = cc in
+    let same-image : length whole - 1 ≡ image = cc in
+    let said = subst (λ (x : Options). IsSaid whole x (length whole - 1)) same-options (run-said run.arguments run.are) in
+    subst (λ (x : List Word). IsSaid x options image) (sym run.is) (subst (λ (x : ℕ). IsSaid whole options x) same-image said)

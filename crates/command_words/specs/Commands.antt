@@ -1,14 +1,14 @@
 -- What a command line says, or where it is at fault. This project's own.
-use Rattle.std.specs.Prelude.{◌≡◌, ℕ, zero, suc, ◌+◌, ◌-◌, ◌≤◌, ◌<◌, true, false, if◌then◌else◌, Option, Some, None, Result, Ok, Err, List, [], ◌∷◌, ◌++◌, length, take, bytes_eq}
+use Rattle.std.specs.Prelude.{◌≡◌, ℕ, zero, suc, ◌+◌, ◌-◌, ◌≤◌, ◌<◌, true, false, if◌then◌else◌, Option, Some, None, Result, Ok, Err, List, [], ◌∷◌, ◌++◌, length, take, bytes_eq, slice_index_or}
 use Rattle.machine_types.specs.declared.config.Config.{Config}
 use Rattle.machine_types.specs.declared.config.Rule.TheVariants.{Full}
 use Rattle.machine_types.specs.DecimalNumbers.{number_of}
 use Rattle.command_words.specs.declared.words.Options.{Options}
 use Rattle.command_words.specs.declared.words.Command.{Command}
-use Rattle.command_words.specs.declared.words.Command.TheVariants.{Run}
+use Rattle.command_words.specs.declared.words.Command.TheVariants.{Run, Asm, Disasm, Check}
 use Rattle.command_words.specs.declared.words.WordFault.{WordFault}
 use Rattle.command_words.specs.Numbers.{default_frames, default_regions, default_slots, default_steps}
-use Rattle.command_words.specs.Grammar.{Word, frames_name, regions_name, slots_name, steps_name, schedule_name, is_command, begins_command}
+use Rattle.command_words.specs.Grammar.{Word, frames_name, regions_name, slots_name, steps_name, schedule_name, asm_name, disasm_name, check_name, is_command, begins_command}
 
 -- the place of the word behind the first one that is this name, from a place on
 abbrev pub place_behind : Word → ℕ → List Word → Option ℕ
@@ -46,9 +46,17 @@ config_of words = record {
 abbrev pub options_of : List Word → Options
 options_of words = record { config = config_of words; schedule = place_behind schedule_name 0 words }
 
--- the image's name is the last word
+-- what the name of a command says, with these options and the file that the word at an index names
+abbrev pub command_by : Word → Options → ℕ → Command
+command_by name options file =
+    if bytes_eq name asm_name then Asm file
+    else (if bytes_eq name disasm_name then Disasm file
+    else (if bytes_eq name check_name then Check file
+    else Run options file))
+
+-- the command's name is the first word, and the file's name the last
 abbrev pub command_of : List Word → Command
-command_of words = Run (options_of words) (length words - 1)
+command_of words = command_by (slice_index_or words 0 []) (options_of words) (length words - 1)
 
 -- The place of a fault, from 1, of so many words from a place on: that of the first word such that the words up to it begin no command,
 -- and one more than their number where all begin one.

@@ -64,9 +64,31 @@ run_options =
     ∷ record { name = schedule_name; value = is_file_name }
     ∷ []
 
+-- the names of commands
+abbrev pub run_name : Word
+run_name = codes "run"
+
+abbrev pub asm_name : Word
+asm_name = codes "asm"
+
+abbrev pub disasm_name : Word
+disasm_name = codes "disasm"
+
+abbrev pub check_name : Word
+check_name = codes "check"
+
+-- a command without options on one file
+abbrev pub tool : Word → CommandRow
+tool name = record { name = name; options = []; operands = is_file_name ∷ [] }
+
 -- the commands
 abbrev pub commands : List CommandRow
-commands = record { name = codes "run"; options = run_options; operands = is_file_name ∷ [] } ∷ []
+commands =
+    record { name = run_name; options = run_options; operands = is_file_name ∷ [] }
+    ∷ tool asm_name
+    ∷ tool disasm_name
+    ∷ tool check_name
+    ∷ []
 
 -- an option of this name, and the others
 abbrev pub option_named : List OptionRow → Word → Option OptionRow

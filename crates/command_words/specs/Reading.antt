@@ -7,9 +7,9 @@ use Rattle.command_words.specs.declared.words.Options.{Options}
 use Rattle.command_words.specs.declared.words.OptionName.{OptionName}
 use Rattle.command_words.specs.declared.words.OptionName.TheVariants.{Frames, Regions, Slots, Steps, Copy, Schedule}
 use Rattle.command_words.specs.declared.words.Command.{Command}
-use Rattle.command_words.specs.declared.words.Command.TheVariants.{Run}
+use Rattle.command_words.specs.declared.words.Command.TheVariants.{Asm, Disasm, Check}
 use Rattle.command_words.specs.declared.words.WordFault.{WordFault}
-use Rattle.command_words.specs.Grammar.{Word, OptionRow, is_number, is_rule, is_file_name, frames_name, regions_name, slots_name, steps_name, copy_name, schedule_name}
+use Rattle.command_words.specs.Grammar.{Word, OptionRow, is_number, is_rule, is_file_name, frames_name, regions_name, slots_name, steps_name, copy_name, schedule_name, asm_name, disasm_name, check_name}
 use Rattle.command_words.specs.Commands.{value_or}
 
 -- the row of an option in the grammar's table
@@ -66,12 +66,19 @@ valued options index name value = if (row_of name).value value then Some (put op
 abbrev pub fault_at : ℕ → Result Command WordFault
 fault_at place = Err (record { place = place })
 
--- behind the image's name, which stands at an index, there is nothing, or the words are at fault
-abbrev pub ends_with : Options → ℕ → List Word → Result Command WordFault
-ends_with options at [] = Ok (Run options at)
-ends_with options at (word ∷ words) = fault_at (at + 2)
+-- behind the file's name, which stands at an index, there is nothing, or the words are at fault
+abbrev pub ends_with : Command → ℕ → List Word → Result Command WordFault
+ends_with command at [] = Ok command
+ends_with command at (word ∷ words) = fault_at (at + 2)
 
--- the words from an index on begin with the image's name, or they are at fault
-unfoldable pub read_last : Options → ℕ → List Word → Result Command WordFault
-read_last options at [] = fault_at (at + 1)
-read_last options at (word ∷ words) = if is_file_name word then ends_with options at words else fault_at (at + 1)
+-- the words of a command from an index on begin with the file's name, or they are at fault
+unfoldable pub read_last : Command → ℕ → List Word → Result Command WordFault
+read_last command at [] = fault_at (at + 1)
+read_last command at (word ∷ words) = if is_file_name word then ends_with command at words else fault_at (at + 1)
+
+-- the command of a tool's name, on the file that the second word names
+abbrev pub tool_of : Word → Option Command
+tool_of word =
+    if bytes_eq word asm_name then Some (Asm 1)
+    else (if bytes_eq word disasm_name then Some (Disasm 1)
+    else (if bytes_eq word check_name then Some (Check 1) else None))

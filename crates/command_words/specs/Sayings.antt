@@ -6,7 +6,7 @@ use Rattle.machine_types.specs.declared.config.Config.{Config}
 use Rattle.machine_types.specs.declared.config.Rule.TheVariants.{Full}
 use Rattle.command_words.specs.declared.words.Options.{Options}
 use Rattle.command_words.specs.declared.words.Command.{Command}
-use Rattle.command_words.specs.declared.words.Command.TheVariants.{Run}
+use Rattle.command_words.specs.declared.words.Command.TheVariants.{Run, Asm, Disasm, Check}
 use Rattle.command_words.specs.Numbers.{default_frames, default_regions, default_slots, default_steps}
 use Rattle.command_words.specs.Grammar.{Word, is_command}
 use Rattle.command_words.specs.Commands.{read_of}
@@ -22,9 +22,12 @@ pub record IsWithinLimits (config : Config) : Type 0 where
   pub steps_most : config.steps ≤ most_steps
   pub rule : config.rule ≡ Full
 
--- Of so many words a command names the image's file by the last, and the schedule's by one before it.
+-- Of so many words a command names its file by the last, and the schedule's by one before it.
 abbrev pub IsCommandOf : ℕ → Command → Type 0
 IsCommandOf count (Run options image) = IsWithinLimits options.config × (image + 1 ≡ count) × IfSome options.schedule (λ index. index < image)
+IsCommandOf count (Asm file) = file + 1 ≡ count
+IsCommandOf count (Disasm file) = file + 1 ≡ count
+IsCommandOf count (Check file) = file + 1 ≡ count
 
 -- a number from the least to the most, in decimal digits
 pub record IsNumber (least most : ℕ) (word : Word) : Type 0 where
@@ -69,7 +72,15 @@ pub record IsRun (words : List Word) : Type 0 where
   pub file : IsFileName name
   pub words_are : words ≡ codes "run" ∷ (option_words options ++ (name ∷ []))
 
--- What a command says: the value of each option is the word behind its name, and where no word is the name it is the default. The image's
+-- `asm`, `disasm` or `check`, and a file's name
+pub record IsTool (words : List Word) : Type 0 where
+  pub tool : Word
+  pub name : Word
+  pub which : (tool ≡ codes "asm") ⊎ ((tool ≡ codes "disasm") ⊎ (tool ≡ codes "check"))
+  pub file : IsFileName name
+  pub words_are : words ≡ tool ∷ name ∷ []
+
+-- What the words of `run` say: the value of each option is the word behind its name, and where no word is the name it is the default. The image's
 -- name is the last word.
 pub record IsSaid (words : List Word) (options : Options) (image : ℕ) : Type 0 where
   pub frames : (before after : List Word) (value : Word) → words ≡ before ++ (codes "--frames" ∷ value ∷ after) → value ≡ decimal options.config.frames
@@ -85,9 +96,16 @@ pub record IsSaid (words : List Word) (options : Options) (image : ℕ) : Type 0
   pub rule : options.config.rule ≡ Full
   pub image_is : image + 1 ≡ length words
 
--- A list of words is a command exactly where it is `run`, options and a file name; and this is what it says.
+-- A list of words is a command exactly where it is `run`, options and a file name, or `asm`, `disasm` or `check` and a file name; and this is
+-- what it says.
 pub record SayingsAreExact : Type 0 where
-  pub command : (words : List Word) → IsRun words → is_command words ≡ true
-  pub run : (words : List Word) → is_command words ≡ true → IsRun words
+  pub run : (words : List Word) → IsRun words → is_command words ≡ true
+  pub tool : (words : List Word) → IsTool words → is_command words ≡ true
+  pub command : (words : List Word) → is_command words ≡ true → IsRun words ⊎ IsTool words
+  pub is_run : (words : List Word) (options : Options) (image : ℕ) → read_of words ≡ Ok (Run options image) → IsRun words
+  pub read : (words : List Word) → IsRun words → (options : Options) × (image : ℕ) × (read_of words ≡ Ok (Run options image))
   pub said : (words : List Word) (options : Options) (image : ℕ) → read_of words ≡ Ok (Run options image) → IsSaid words options image
+  pub asm : (name : Word) → IsFileName name → read_of (codes "asm" ∷ name ∷ []) ≡ Ok (Asm 1)
+  pub disasm : (name : Word) → IsFileName name → read_of (codes "disasm" ∷ name ∷ []) ≡ Ok (Disasm 1)
+  pub check : (name : Word) → IsFileName name → read_of (codes "check" ∷ name ∷ []) ≡ Ok (Check 1)
   pub within : (words : List Word) (command : Command) → read_of words ≡ Ok command → IsCommandOf (length words) command

@@ -15,8 +15,9 @@ pub fn commands_are_exact()
     ensures { CommandsAreExact }
 {}
 
-/// A list of words is a command exactly where it is `run`, options of different names with their values, and a file name. The value of
-/// each option is the word behind its name or the default, and the image's name is the last word.
+/// A list of words is a command exactly where it is `run`, options of different names with their values, and a file name, or `asm`,
+/// `disasm` or `check` and a file name. The value of each option is the word behind its name or the default, and the file's name is the
+/// last word.
 pub fn sayings_are_exact()
     ensures { SayingsAreExact }
 {}

@@ -60,6 +60,29 @@ fn faults_have_places(rt: HostRuntime) -> Result<(), Fail> {
     Ok(())
 }
 
+#[test]
+fn tools_take_a_file_and_no_options(rt: HostRuntime) -> Result<(), Fail> {
+    let alloc = rt.alloc();
+    assert_eq!(rt; read(alloc, &["asm", "a"])?, Ok(Command::Asm { file: 1 }));
+    assert_eq!(rt;
+        read(alloc, &["disasm", "run"])?,
+        Ok(Command::Disasm { file: 1 })
+    );
+    assert_eq!(rt;
+        read(alloc, &["check", "a-b"])?,
+        Ok(Command::Check { file: 1 })
+    );
+    assert_eq!(rt; place(alloc, &["asm"])?, 2);
+    assert_eq!(rt; place(alloc, &["asm", ""])?, 2);
+    assert_eq!(rt; place(alloc, &["disasm", "-a"])?, 2);
+    assert_eq!(rt; place(alloc, &["asm", "a", "b"])?, 3);
+    assert_eq!(rt; place(alloc, &["check", "--frames", "1", "a"])?, 2);
+    assert_eq!(rt; place(alloc, &["disasm", "a", "--frames"])?, 3);
+    assert_eq!(rt; place(alloc, &["asmx", "a"])?, 1);
+    assert_eq!(rt; place(alloc, &["a", "check"])?, 1);
+    Ok(())
+}
+
 // The same of a line with one option.
 fn with_option(alloc: Global, name: &str, value: &str) -> Result<u64, AllocError> {
     place(alloc, &["run", name, value, "a"])

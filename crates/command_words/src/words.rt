@@ -1,10 +1,10 @@
 // The reader of command lines.
-ghost use Rattle.std.specs.Prelude.{◌≡◌, ◌<◌, IfOk, map, string_bytes, codes, [], length, drop, slice_index_or};
+ghost use Rattle.std.specs.Prelude.{◌≡◌, ◌<◌, ◌≤◌, IfOk, map, string_bytes, codes, [], length, drop, slice_index_or};
 ghost use Rattle.machine_types.specs.DecimalNumbers.{number_in};
 ghost use Rattle.command_words.specs.Grammar.{is_file_name};
 ghost use Rattle.command_words.specs.Commands.{options_of, read_of};
 ghost use Rattle.command_words.specs.Sayings.{IsCommandOf};
-ghost use Rattle.command_words.specs.Reading.{place_of, name_of, left_of, valued, fault_at, read_last};
+ghost use Rattle.command_words.specs.Reading.{place_of, name_of, left_of, valued, fault_at, read_last, tool_of};
 
 use crate::{DEFAULT_FRAMES, DEFAULT_REGIONS, DEFAULT_SLOTS, DEFAULT_STEPS};
 use cap_format::{MOST_FRAMES, MOST_REGIONS};
@@ -24,6 +24,12 @@ pub struct Options {
 pub enum Command {
     /// Runs an image: the index of the word that names its file.
     Run { options: Options, image: usize },
+    /// Assembles a source: the index of the word that names its file.
+    Asm { file: usize },
+    /// Lists the instructions of an image: the index of the word that names its file.
+    Disasm { file: usize },
+    /// Tells whether a file is an image: the index of the word that names it.
+    Check { file: usize },
 }
 
 /// The words are no command.
@@ -165,7 +171,7 @@ fn read_run(words: &[String]) -> Result<Command, WordFault>
     let mut at = 1;
     while at < words.len() {
         let Some(name) = option_left(words[at].as_str(), &used) else {
-            return read_image_name(words, options, at);
+            return read_last(words, Command::Run { options, image: at }, at);
         };
         if at + 1 == words.len() {
             return fault(at + 2);
@@ -180,22 +186,36 @@ fn read_run(words: &[String]) -> Result<Command, WordFault>
     fault(words.len() + 1)
 }
 
-// The last word of `run`, at an index, is the image's name.
-fn read_image_name(words: &[String], options: Options, at: usize) -> Result<Command, WordFault>
-    requires { at < length words.now }
-    ensures { result ≡ read_last options at (drop at (map string_bytes words.now)) }
+// The last word of a command, at an index, is a file's name.
+fn read_last(words: &[String], command: Command, at: usize) -> Result<Command, WordFault>
+    requires { at ≤ length words.now }
+    ensures { result ≡ read_last command at (drop at (map string_bytes words.now)) }
 {
-    if !is_file_name(words[at].as_str()) {
+    if at == words.len() || !is_file_name(words[at].as_str()) {
         return fault(at + 1);
     }
     if at + 1 < words.len() {
         return fault(at + 2);
     }
-    Ok(Command::Run { options, image: at })
+    Ok(command)
+}
+
+// The command of a tool's name, on the file that the second word names.
+fn tool_named(word: &str) -> Option<Command>
+    ensures { result ≡ tool_of word.now }
+{
+    match word {
+        "asm" => Some(Command::Asm { file: 1 }),
+        "disasm" => Some(Command::Disasm { file: 1 }),
+        "check" => Some(Command::Check { file: 1 }),
+        _ => None,
+    }
 }
 
 /// Reads the words of a command line, without the program's name: `run`, then options, each at most once and as two words, and then
-/// the name of the image's file.
+/// the name of the image's file; or `asm`, `disasm` or `check`, and the name of a file.
+///
+/// The options of `run` are these:
 ///
 /// | Option | Value | Without it |
 /// |---|---|---|
@@ -215,8 +235,12 @@ pub fn read_words(words: &[String]) -> Result<Command, WordFault>
     if words.is_empty() {
         return fault(1);
     }
-    if words[0].as_str() != "run" {
-        return fault(1);
+    let name = words[0].as_str();
+    if name == "run" {
+        return read_run(words);
     }
-    read_run(words)
+    match tool_named(name) {
+        Some(command) => read_last(words, command, 1),
+        None => fault(1),
+    }
 }

@@ -7,6 +7,7 @@ use Rattle.cap_format.specs.declared.image.ImageFault.{ImageFault}
 use Rattle.machine_types.specs.declared.config.Config.{Config}
 use Rattle.elf_loader.specs.Loaded.{image_of}
 use Rattle.command_words.specs.declared.words.Options.{Options}
+use Rattle.command_words.specs.declared.words.Command.{Command}
 use Rattle.command_words.specs.declared.words.Command.TheVariants as command
 use Rattle.command_words.specs.Commands.{read_of}
 use Rattle.ufork_program.specs.Numbers.{most_input}
@@ -14,13 +15,14 @@ use Rattle.ufork_program.specs.Machine.{Machine, Setup}
 use Rattle.ufork_program.specs.Run.{run_course}
 use Rattle.ufork_program.specs.Answer.{word_at, Sources, usage, cannot_read, image_refused, schedule_refused, input_too_long, frames_lacked, refused}
 use Rattle.ufork_program.specs.Answer.{frames_course, input_course, text_course, schedule_course, option_course, image_course, file_course, command_course, course}
-use Rattle.ufork_program.specs.Request.{setup_of, course_of, NamesFile, NamesNoImage, NamesImage, NamesNoSchedule, HasSchedule, IsScheduleAt, NamesFiles}
+use Rattle.ufork_program.specs.Request.{setup_of, parts_shown, course_of, file_index, ReadsImage, NamesFile, NamesNoImage, NamesImage, NamesNoSchedule, HasSchedule, IsScheduleAt, NamesFiles}
 use Rattle.ufork_program.specs.Request.{HasLongInput, NamesGuest, NamesTooMany, CanRun, IsUsable, IsRequestOf, ComesOf, HasFilesCause, HasInputCause}
 use Rattle.ufork_program.specs.Headline.{Call, OfSources, OfCourse, Went}
 use Rattle.ufork_program.specs.declared.request.Guest.{Guest}
 use Rattle.ufork_program.specs.declared.request.Request.{Request}
-use Rattle.ufork_program.specs.declared.request.Request.TheVariants.{Refused, NoMemory, Run}
-use Rattle.ufork_program.specs.declared.request.CommandRefusal.TheVariants.{Usage, CannotRead, NoImage, NoSchedule, InputFailed, InputTooLong, NoFrames}
+use Rattle.ufork_program.specs.declared.request.Request.TheVariants.{Refused, NoMemory, Run, Show}
+use Rattle.ufork_program.specs.declared.request.CommandRefusal.TheVariants.{Usage, CannotRead, NoImage, NoSchedule, InputFailed, InputTooLong, NoFrames, NoSource}
+use Rattle.ufork_program.proofs.ToolCourses.{no-image-tool, no-source-leads, shown-leads}
 
 module _ (words : List (List ℕ)) (sources : Sources) where
   -- words that are no command
@@ -41,9 +43,16 @@ module _ (words : List (List ℕ)) (sources : Sources) where
   file_leads : (options : Options) (file : List ℕ) → NamesFile words sources.files options file → course words sources ≡ image_course words sources options file (fault_of file)
   file_leads options file names = command_leads options names.image names.command ∙ ap (file_course words sources options (word_at words names.image)) names.content
 
-  -- which is no image
+  -- which is no image, for any command that reads one
   pub no_image_leads : (fault : ImageFault) → NamesNoImage words sources.files fault → course words sources ≡ refused (image_refused fault)
-  no_image_leads fault h = file_leads h.options h.file h.names ∙ ap (image_course words sources h.options h.file) h.fault_is
+  no_image_leads fault h = by h.command h.names.is h.names.found h.reads
+    where
+      by : (read : Command) → read_of words ≡ Ok read → sources.files (file_index read) ≡ Some h.file → ReadsImage read → course words sources ≡ refused (image_refused fault)
+      by (command.Run options image) is content reads =
+          file_leads options h.file (record { image = image; command = is; content = content }) ∙ ap (image_course words sources options h.file) h.fault_is
+      by (command.Asm index) is content reads = absurd reads
+      by (command.Disasm index) is content reads = no-image-tool words sources (command.Disasm index) index h.file fault (inl refl) is content h.fault_is
+      by (command.Check index) is content reads = no-image-tool words sources (command.Check index) index h.file fault (inr refl) is content h.fault_is
 
   -- or is one, which leads to what the option says
   image_leads : (options : Options) (file : List ℕ) → NamesImage words sources.files options file
@@ -130,15 +139,10 @@ module _ (words : List (List ℕ)) (sources : Sources) where
 
 -- no file and no input failed, and no memory was wanted
 abbrev pub IsOfCourse : Request → Type 0
-IsOfCourse (Refused (Usage place)) = Unit {0}
 IsOfCourse (Refused (CannotRead index)) = ⊥
-IsOfCourse (Refused (NoImage fault)) = Unit {0}
-IsOfCourse (Refused (NoSchedule line)) = Unit {0}
 IsOfCourse (Refused InputFailed) = ⊥
-IsOfCourse (Refused InputTooLong) = Unit {0}
-IsOfCourse (Refused (NoFrames pages frames)) = Unit {0}
 IsOfCourse NoMemory = ⊥
-IsOfCourse (Run guest) = Unit {0}
+IsOfCourse _ = Unit {0}
 
 -- the facts of a call that went by this request
 pub record WentBy (call : Call) (request : Request) : Type 0 where
@@ -165,8 +169,10 @@ came_leads words sources (Refused (NoSchedule line)) of usable is = no_schedule_
 came_leads words sources (Refused InputFailed) of usable is = absurd of
 came_leads words sources (Refused InputTooLong) of usable is = long_leads words sources is
 came_leads words sources (Refused (NoFrames pages frames)) of usable is = no_frames_lead words sources pages frames is
+came_leads words sources (Refused (NoSource fault)) of usable is = no-source-leads words sources fault is
 came_leads words sources NoMemory of usable is = absurd of
 came_leads words sources (Run guest) of usable is = run_leads words sources (setup_of guest) is (has_room guest usable)
+came_leads words sources (Show parts) of usable is = shown-leads words sources (parts_shown parts) is
 
 -- what is so of the sources of a request is so of those of the call
 pub request-told : (call : Call) (request : Request) (P : Sources → Type 0) (by : WentBy call request) → P by.comes.sources → OfSources call P
@@ -182,11 +188,13 @@ course-told call request P of by p =
 pub is_usage_or_command : (words : List (List ℕ)) (sources : Sources) (request : Request) → IsRequestOf words sources request
     → ((place : ℕ) × (request ≡ Refused (Usage place))) ⊎ IsOk (read_of words)
 is_usage_or_command words sources (Refused (Usage place)) is = inl (place, refl)
-is_usage_or_command words sources (Refused (CannotRead index)) is = inr (rw is.command refl)
-is_usage_or_command words sources (Refused (NoImage fault)) is = inr (rw is.names.command refl)
+is_usage_or_command words sources (Refused (CannotRead index)) is = inr (rw is.is refl)
+is_usage_or_command words sources (Refused (NoImage fault)) is = inr (rw is.names.is refl)
 is_usage_or_command words sources (Refused (NoSchedule line)) is = inr (rw is.names.names.names.command refl)
 is_usage_or_command words sources (Refused InputFailed) is = inr (rw is.names.names.names.command refl)
 is_usage_or_command words sources (Refused InputTooLong) is = inr (rw is.reads.names.names.names.command refl)
 is_usage_or_command words sources (Refused (NoFrames pages frames)) is = inr (rw is.names.names.names.names.command refl)
+is_usage_or_command words sources (Refused (NoSource fault)) is = inr (rw is.names.is refl)
 is_usage_or_command words sources NoMemory is = inr is
+is_usage_or_command words sources (Show parts) is = inr (rw is.names.is refl)
 is_usage_or_command words sources (Run guest) is = inr (rw is.names.names.names.command refl)

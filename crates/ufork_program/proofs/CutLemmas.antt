@@ -5,16 +5,19 @@ use Rattle.std.specs.declared.option.Option.{Option}
 use Rattle.std.specs.Io.KnownBytes.{Consumes, IsAtEnd}
 use Rattle.outside_io.specs.States.{FilesState, SourceState}
 use Rattle.cap_format.specs.declared.image.ImageFault.{ImageFault}
+use Rattle.outside_io.specs.Parts.{Part}
+use Rattle.asm_text.specs.declared.source.SourceFault.{SourceFault}
+use Rattle.command_words.specs.declared.words.Command.TheVariants as command
 use Rattle.command_words.specs.Commands.{read_of}
 use Rattle.run_texts.specs.Schedules.{schedule_of}
 use Rattle.ufork_program.specs.Machine.{Setup}
 use Rattle.ufork_program.specs.Input.{TookAll, TookTooMany}
 use Rattle.ufork_program.specs.Answer.{Files, Sources}
-use Rattle.ufork_program.specs.Request.{setup_of, course_of, NamesNoImage, NamesNoSchedule, HasSchedule, IsScheduleAt, NamesGuest, ReadsInput, HasLongInput, AreTold, HasFilesCause, HasInputCause}
+use Rattle.ufork_program.specs.Request.{setup_of, parts_shown, course_of, file_index, NamesNoSource, IsShownOf, NamesShown, NamesNoImage, NamesNoSchedule, HasSchedule, IsScheduleAt, NamesGuest, ReadsInput, HasLongInput, AreTold, HasFilesCause, HasInputCause}
 use Rattle.ufork_program.specs.Headline.{Call, WasCut, CutWith, CourseCut}
 use Rattle.ufork_program.specs.declared.request.Request.{Request}
-use Rattle.ufork_program.specs.declared.request.Request.TheVariants.{Refused, NoMemory, Run}
-use Rattle.ufork_program.specs.declared.request.CommandRefusal.TheVariants.{Usage, CannotRead, NoImage, NoSchedule, InputFailed, InputTooLong, NoFrames}
+use Rattle.ufork_program.specs.declared.request.Request.TheVariants.{Refused, NoMemory, Run, Show}
+use Rattle.ufork_program.specs.declared.request.CommandRefusal.TheVariants.{Usage, CannotRead, NoImage, NoSchedule, InputFailed, InputTooLong, NoFrames, NoSource}
 use Rattle.ufork_program.proofs.CourseLemmas.{IsOfCourse, WentBy, came_leads, request-told}
 
 -- the files are as they were, unless one of them failed
@@ -43,10 +46,21 @@ module _ (words : List (List ℕ)) (files : Files) where
   -- nor do those whose file is no image
   no_image_reads_none : (fault : ImageFault) → NamesNoImage words files fault → ReadsInput words files → ⊥
   no_image_reads_none fault h reads =
-      let n = h.names in let m = reads.names.names.names in
-      let wrong = h.fault_is in let right = reads.names.names.image in
-      let first = n.command in let second = m.command in
-      let found = n.content in let same = m.content in cc
+      let m = reads.names.names.names in
+      let same : h.command ≡ command.Run reads.names.options m.image = let first = h.names.is in let second = m.command in cc in
+      let found : files m.image ≡ Some h.file = subst (λ tool. files (file_index tool) ≡ Some h.file) same h.names.found in
+      let wrong = h.fault_is in let right = reads.names.names.image in let content = m.content in cc
+
+  -- nor do those of a source
+  no_source_reads_none : (fault : SourceFault) → NamesNoSource words files fault → ReadsInput words files → ⊥
+  no_source_reads_none fault h reads = let first = h.names.is in let second = reads.names.names.names.command in cc
+
+  -- nor those that show a file
+  shown_reads_none : (parts : List Part) → NamesShown words files parts → ReadsInput words files → ⊥
+  shown_reads_none parts h reads =
+      let m = reads.names.names.names in
+      let same : h.command ≡ command.Run reads.names.options m.image = let first = h.names.is in let second = m.command in cc in
+      subst (λ tool. IsShownOf tool h.content parts) same h.shown_is
 
   -- nor those whose text is no schedule
   no_schedule_reads_none : (line : ℕ) → NamesNoSchedule words files line → ReadsInput words files → ⊥
@@ -104,7 +118,9 @@ module _ (c : Call) where
   taken_by (Refused InputFailed) of by = absurd of
   taken_by (Refused InputTooLong) of by = too_many_taken by.comes.sources by.comes.is by.input_cause
   taken_by (Refused (NoFrames pages frames)) of by = all_taken by.comes.sources by.comes.is.setup by.input_cause.bytes by.comes.told by.comes.is.names by.input_cause.all
+  taken_by (Refused (NoSource fault)) of by = none_taken by.comes.sources (no_source_reads_none c.words by.comes.sources.files fault by.comes.is)
   taken_by NoMemory of by = absurd of
+  taken_by (Show parts) of by = none_taken by.comes.sources (shown_reads_none c.words by.comes.sources.files (parts_shown parts) by.comes.is)
   taken_by (Run guest) of by = all_taken by.comes.sources (setup_of guest) guest.input.items by.comes.told by.comes.is by.input_cause
 
   -- where neither a file nor the input failed, the course of the sources was cut

@@ -2,7 +2,7 @@
 use Rattle.std.proofs.Common.{◌≡◌, ℕ, suc, ◌+◌, ◌⊎◌, inl, inr, List, [], ◌∷◌, ◌++◌, Option, Some, None, sym, ap, ◌∙◌, subst, arith, append-nil}
 use Rattle.outside_io.specs.Faults.{Rose}
 use Rattle.outside_io.specs.States.{FilesState, SourceState, CountsBelowLast}
-use Rattle.outside_io.specs.Parts.{RoseAt, err_part, front_of, console_of, Written}
+use Rattle.outside_io.specs.Parts.{Part, RoseAt, err_part, front_of, console_of, Written}
 use Rattle.outside_io.specs.Answers.{Answer, refusal}
 use Rattle.outside_io.specs.Moments.{Moment, Course, parts_of, while_stands}
 use Rattle.outside_io.proofs.MomentLemmas.{parts_of-append, parts_of-while}
@@ -10,20 +10,20 @@ use Rattle.ufork_program.specs.Lines.{cannot_read_line, input_failed_line}
 use Rattle.ufork_program.specs.Machine.{Machine, Setup, start}
 use Rattle.ufork_program.specs.Run.{run_moments, run_end, last_line, run_course, course_from, state_after, moments_of, EndsAtTheLeast, RunsEndAtTheLeast}
 use Rattle.ufork_program.specs.Request.{NamesGuest, HasLongInput}
-use Rattle.ufork_program.specs.Answer.{Sources, course, refused, cannot_read, input_failed}
+use Rattle.ufork_program.specs.Answer.{Sources, course, refused, shown, cannot_read, input_failed}
 use Rattle.ufork_program.specs.Headline.{Call, Left, WasCut, LineCut, InputLineCut, CourseCut}
 use Rattle.ufork_program.specs.Telling.{Tells, TookThere}
-use Rattle.ufork_program.specs.Cutting.{CutInStep, CutAtLastLine, HasFront, CutAtName, CutAtInput}
+use Rattle.ufork_program.specs.Cutting.{CutInShown, CutInStep, CutAtLastLine, HasFront, CutAtName, CutAtInput}
 use Rattle.ufork_program.proofs.SplitLemmas.{IsSplit, in_first, in_second, split, one_moment, moment-of}
 use Rattle.ufork_program.proofs.StepMoments.{IsInStep, in_step}
 use Rattle.ufork_program.proofs.TellingLemmas.{told-holds, took-front, read-told, broke-taken}
 
 -- While a refusal is answered no machine stands, so the board is the empty one that was handed over.
-refusal-left : (call : Call) (answer : Answer) → WasCut call (refused answer) → Left call None
+pub refusal-left : (call : Call) (answer : Answer) → WasCut call (refused answer) → Left call None
 refusal-left call answer h = subst (Left call) (moment-of None answer.parts h.before h.part h.state h.after h.list).stands_is h.left
 
 -- So it is where the line of a file or an input that failed was cut.
-line-left : (call : Call) → LineCut call ⊎ InputLineCut call → Left call None
+pub line-left : (call : Call) → LineCut call ⊎ InputLineCut call → Left call None
 line-left call (inl h) = refusal-left call (cannot_read h.name) h.cut
 line-left call (inr h) = refusal-left call input_failed h.cut
 
@@ -50,6 +50,28 @@ module _ (call : Call) (sources : Sources) (told : Tells call sources) where
   pub refusal-told : (answer : Answer) → course call.words sources ≡ refused answer → CourseCut call ⊎ (LineCut call ⊎ InputLineCut call) → Left call None
   refusal-told answer is (inl h) = refusal-left call answer (course-told (refused answer) is h)
   refusal-told answer is (inr h) = line-left call h
+
+  -- Of what is shown of a file a part was cut.
+  pub shown-cut : (parts : List Part) → course call.words sources ≡ shown parts → CountsBelowLast call.old → call.new.files.faults ≡ call.old.files.faults
+      → call.new.input.faults ≡ call.old.input.faults → CourseCut call ⊎ (LineCut call ⊎ InputLineCut call) → CutInShown call parts
+  shown-cut parts is below kept unbroken (inl h) =
+      let cut = course-told (shown parts) is h in
+      let moment = moment-of None parts cut.before cut.part cut.state cut.after cut.list in
+      let earlier : parts_of cut.before ≡ moment.before = ap parts_of moment.earlier_are ∙ parts_of-while None moment.before in
+      let left : Left call None = subst (Left call) moment.stands_is cut.left in
+      record {
+        before = moment.before;
+        part = cut.part;
+        after = moment.after;
+        parts_are = moment.list;
+        some = cut.some;
+        rose = cut.rose;
+        count = cut.count;
+        written = subst (λ l. Written (l ++ front_of cut.count cut.part ∷ []) (console_of call.old) (console_of call.new)) earlier cut.written;
+        given = left.0;
+        empty = left.1;
+      }
+  shown-cut parts is below kept unbroken (inr h) = absurd (line-not_cut call below kept unbroken h)
 
   module _ (m : Machine) (limit : ℕ) where
     -- A cut moment of the steps is a cut part of one of them.

@@ -7,8 +7,8 @@ use Rattle.ufork_program.specs.Request.{setup_of, course_of}
 use Rattle.ufork_program.specs.Headline.{statuses}
 use Rattle.ufork_program.specs.declared.request.Guest.{Guest}
 use Rattle.ufork_program.specs.declared.request.Request.{Request}
-use Rattle.ufork_program.specs.declared.request.Request.TheVariants.{Refused, NoMemory, Run}
-use Rattle.ufork_program.specs.declared.request.CommandRefusal.TheVariants.{Usage, CannotRead, NoImage, NoSchedule, InputFailed, InputTooLong, NoFrames}
+use Rattle.ufork_program.specs.declared.request.Request.TheVariants.{Refused, NoMemory, Run, Show}
+use Rattle.ufork_program.specs.declared.request.CommandRefusal.TheVariants.{Usage, CannotRead, NoImage, NoSchedule, InputFailed, InputTooLong, NoFrames, NoSource}
 
 -- how a course ends
 pub data Ending : Type 0 where
@@ -19,6 +19,7 @@ pub data Ending : Type 0 where
   input_end : Ending
   length_end : Ending
   frames_end : Ending
+  source_end : Ending
   memory_end : Ending
   done_end : Ending
   stopped_end : Ending
@@ -32,6 +33,7 @@ status_at schedule_end = 5
 status_at input_end = 6
 status_at length_end = 11
 status_at frames_end = 12
+status_at source_end = 13
 status_at memory_end = 10
 status_at done_end = 0
 status_at stopped_end = 8
@@ -40,7 +42,7 @@ status_at stopped_end = 8
 abbrev ending_at : ℕ → Ending
 ending_at n =
     if nat_eq n 2 then words_end else if nat_eq n 3 then file_end else if nat_eq n 4 then image_end else if nat_eq n 5 then schedule_end
-    else if nat_eq n 6 then input_end else if nat_eq n 11 then length_end else if nat_eq n 12 then frames_end
+    else if nat_eq n 6 then input_end else if nat_eq n 11 then length_end else if nat_eq n 12 then frames_end else if nat_eq n 13 then source_end
     else if nat_eq n 10 then memory_end else if nat_eq n 0 then done_end else stopped_end
 
 -- it is
@@ -52,6 +54,7 @@ ending_at-status schedule_end = refl
 ending_at-status input_end = refl
 ending_at-status length_end = refl
 ending_at-status frames_end = refl
+ending_at-status source_end = refl
 ending_at-status memory_end = refl
 ending_at-status done_end = refl
 ending_at-status stopped_end = refl
@@ -69,6 +72,7 @@ not_fault_at schedule_end h = omega arith
 not_fault_at input_end h = omega arith
 not_fault_at length_end h = omega arith
 not_fault_at frames_end h = omega arith
+not_fault_at source_end h = omega arith
 not_fault_at memory_end h = omega arith
 not_fault_at done_end h = omega arith
 not_fault_at stopped_end h = omega arith
@@ -82,6 +86,7 @@ known_at schedule_end = (4, omega arith, refl)
 known_at input_end = (5, omega arith, refl)
 known_at length_end = (9, omega arith, refl)
 known_at frames_end = (10, omega arith, refl)
+known_at source_end = (11, omega arith, refl)
 known_at memory_end = (8, omega arith, refl)
 known_at done_end = (0, omega arith, refl)
 known_at stopped_end = (7, omega arith, refl)
@@ -113,8 +118,10 @@ ending_of (Refused (NoSchedule line)) = schedule_end
 ending_of (Refused InputFailed) = input_end
 ending_of (Refused InputTooLong) = length_end
 ending_of (Refused (NoFrames pages frames)) = frames_end
+ending_of (Refused (NoSource fault)) = source_end
 ending_of NoMemory = memory_end
 ending_of (Run guest) = run_ending (end_of guest).live
+ending_of (Show parts) = done_end
 
 -- has its status
 pub ending_of-status : (words : List (List ℕ)) (request : Request) → (course_of words request).status ≡ status_at (ending_of request)
@@ -125,8 +132,10 @@ ending_of-status words (Refused (NoSchedule line)) = refl
 ending_of-status words (Refused InputFailed) = refl
 ending_of-status words (Refused InputTooLong) = refl
 ending_of-status words (Refused (NoFrames pages frames)) = refl
+ending_of-status words (Refused (NoSource fault)) = refl
 ending_of-status words NoMemory = refl
 ending_of-status words (Run guest) = run_ending-status (end_of guest).live
+ending_of-status words (Show parts) = refl
 
 -- no course has the status of a write fault
 pub course_of-not_fault : (words : List (List ℕ)) (request : Request) → (course_of words request).status ≢ write_fault

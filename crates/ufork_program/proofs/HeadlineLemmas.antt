@@ -8,15 +8,15 @@ use Rattle.outside_io.proofs.AnswerLemmas.{Still-not_Rose, SinkRose-at, SinksSti
 use Rattle.outside_io.proofs.MomentLemmas.{EndsAt-answer, EndsAt-cut, CutAt-parts}
 use Rattle.command_words.specs.Commands.{read_of}
 use Rattle.ufork_program.specs.Answer.{word_at}
-use Rattle.ufork_program.specs.Request.{setup_of, course_of, NamesNoImage, NamesNoSchedule, NamesGuest, NamesTooMany, ReadsInput, HasLongInput, IsReadAt, HasFilesCause}
+use Rattle.ufork_program.specs.Request.{setup_of, parts_shown, course_of, NamesNoSource, NamesShown, NamesNoImage, NamesNoSchedule, NamesGuest, NamesTooMany, ReadsInput, HasLongInput, IsReadAt, HasFilesCause}
 use Rattle.ufork_program.specs.Headline.{Call, Left, WentWhole, WasCut, OfSources, OfCourse, WantedMemory, HasFault, TellsOfWords, FileFailed, TellsOfFile, LineCut, InputBroke}
-use Rattle.ufork_program.specs.Headline.{TellsOfInput, InputLineCut, CourseCut, Ran, TellsOfImage, TellsOfSchedule, TellsOfLength, TellsOfFrames, statuses, Promises, Went}
+use Rattle.ufork_program.specs.Headline.{TellsOfInput, InputLineCut, CourseCut, Ran, Showed, TellsOfSource, TellsOfImage, TellsOfSchedule, TellsOfLength, TellsOfFrames, statuses, Promises, Went}
 use Rattle.ufork_program.specs.declared.request.Guest.{Guest}
 use Rattle.ufork_program.specs.declared.request.Request.{Request}
-use Rattle.ufork_program.specs.declared.request.Request.TheVariants.{Refused, NoMemory, Run}
-use Rattle.ufork_program.specs.declared.request.CommandRefusal.TheVariants.{Usage, CannotRead, NoImage, NoSchedule, InputFailed, InputTooLong, NoFrames}
+use Rattle.ufork_program.specs.declared.request.Request.TheVariants.{Refused, NoMemory, Run, Show}
+use Rattle.ufork_program.specs.declared.request.CommandRefusal.TheVariants.{Usage, CannotRead, NoImage, NoSchedule, InputFailed, InputTooLong, NoFrames, NoSource}
 use Rattle.ufork_program.proofs.CourseLemmas.{WentBy, went_by, request-told, course-told, has_room, is_usage_or_command}
-use Rattle.ufork_program.proofs.EndingLemmas.{Ending, words_end, file_end, image_end, schedule_end, input_end, length_end, frames_end, memory_end, done_end, stopped_end}
+use Rattle.ufork_program.proofs.EndingLemmas.{Ending, words_end, file_end, image_end, schedule_end, input_end, length_end, frames_end, source_end, memory_end, done_end, stopped_end}
 use Rattle.ufork_program.proofs.EndingLemmas.{status_at, same_ending, not_fault_at, known_at, run_ending, run_ending-neither, end_of, ending_of, ending_of-status, course_of-not_fault}
 use Rattle.ufork_program.proofs.CutLemmas.{files_kept_unless, unbroken_unless, guest_reads, course_cut}
 
@@ -80,15 +80,16 @@ module _ (c : Call) where
   Tells input_end = TellsOfInput c
   Tells length_end = TellsOfLength c
   Tells frames_end = TellsOfFrames c
+  Tells source_end = TellsOfSource c
   Tells memory_end = WantedMemory c
-  Tells done_end = Ran false c
+  Tells done_end = Ran false c ⊎ Showed c
   Tells stopped_end = Ran true c
 
   -- the ending of a run
   ran_as : (live : Bool) (guest : Guest) → (end_of guest).live ≡ live → WentBy c (Run guest) → WentWhole c (course_of c.words (Run guest)) → Tells (run_ending live)
   unfolding Tells
   ran_as true guest live_is by w = ran_by true guest live_is by w
-  ran_as false guest live_is by w = ran_by false guest live_is by w
+  ran_as false guest live_is by w = inl (ran_by false guest live_is by w)
 
   -- and of each request
   tells_by : (request : Request) → WentBy c request → WentWhole c (course_of c.words request) → Tells (ending_of request)
@@ -108,8 +109,20 @@ module _ (c : Call) where
     read = by.input_cause;
     whole = w;
   }
+  tells_by (Refused (NoSource fault)) by w = record {
+    fault = fault;
+    named = request-told c (Refused (NoSource fault)) (λ sources. NamesNoSource c.words sources.files fault) by by.comes.is;
+    whole = w;
+    unasked = by.input_cause;
+  }
   tells_by NoMemory by w = record { whole = w; unasked = by.input_cause }
   tells_by (Run guest) by w = ran_as (end_of guest).live guest refl by w
+  tells_by (Show parts) by w = inr (record {
+    parts = parts_shown parts;
+    named = request-told c (Show parts) (λ sources. NamesShown c.words sources.files (parts_shown parts)) by by.comes.is;
+    whole = w;
+    unasked = by.input_cause;
+  })
 
   -- the ending of a call is that of its status
   ending_is : (e : Ending) (request : Request) → WentWhole c (course_of c.words request) → c.status ≡ status_at e → ending_of request ≡ e
@@ -236,6 +249,7 @@ module _ (c : Call) where
   not_run_by : (request : Request) → WentWhole c (course_of c.words request) → c.status ≢ 0 → c.status ≢ 8 → Left c None
   not_run_by (Refused refusal) w done stopped = w.left
   not_run_by NoMemory w done stopped = w.left
+  not_run_by (Show parts) w done stopped = w.left
   not_run_by (Run guest) w done stopped = absurd (run_ending-neither (end_of guest).live c.status w.status done stopped)
 
   -- so it is at the end of the call
@@ -267,6 +281,7 @@ module _ (c : Call) where
     input_failed = tells input_end h;
     input_too_long = tells length_end h;
     frames_lacked = tells frames_end h;
+    source_refused = tells source_end h;
     sink_failed = sink_failed h;
     sink_passed = sink_passed h;
     file_passed = file_passed h;

@@ -4,7 +4,7 @@ use Rattle.std.specs.Bool.{⊤}
 use Rattle.std.specs.declared.option.Option.{Option}
 use Rattle.outside_io.specs.declared.streams.Failed.{Failed}
 use Rattle.outside_io.specs.States.{SinkState, PrintsText}
-use Rattle.outside_io.specs.Parts.{Console, console, err_part}
+use Rattle.outside_io.specs.Parts.{Part, Console, console, err_part, Prints}
 use Rattle.outside_io.specs.Answers.{Answer, Answers, refusal, memory_wanted, write_fault}
 use Rattle.outside_io.specs.Moments.{EndsAt}
 use Rattle.outside_io.proofs.PartLemmas.{Prints-nothing, Prints-err, Prints-stop, Prints-gives}
@@ -17,7 +17,7 @@ use Rattle.full_space.specs.declared.space.FullSpace.{FullSpace}
 use Rattle.full_space.specs.Full.{FullStands}
 use Rattle.ufork_program.specs.Machine.{Machine}
 use Rattle.ufork_program.specs.Kernel.{IsLeftIn}
-use Rattle.ufork_program.specs.Answer.{refused}
+use Rattle.ufork_program.specs.Answer.{shown_answer, refused}
 use Rattle.ufork_program.specs.Headline.{IsLeftOn}
 use Rattle.ufork_program.specs.declared.kernel.Kernel.{Kernel}
 
@@ -47,3 +47,9 @@ line_answered status line out old new (Ok done) result some prints is =
     rw is (record { prints = Prints-gives _ _ _ _ _ (Prints-err _ _ _ _ _ tt prints); status = refl })
 line_answered status line out old new (Err failed) result some prints is =
     rw is (Answers-failed _ _ _ _ (λ (other : Failed). ⊤) tt (Prints-stop (err_part line ∷ []) [] _ _ _ _ (λ (other : Failed). ⊤) tt (Prints-err _ _ _ _ _ some prints)))
+
+-- what is shown of a file, and was written, or cut, is answered with 0
+pub shown_answered : (parts : List Part) (old new : Console) (written : Result (Unit {0}) Failed) (result : Result ℕ Failed) → Prints parts old new written
+    → MatchResult written (λ _. result ≡ Ok 0) (λ failed. result ≡ Err failed) → Answers (shown_answer parts) old new result
+shown_answered parts old new (Ok done) result prints is = rw is (record { prints = Prints-gives _ _ _ _ _ prints; status = refl })
+shown_answered parts old new (Err failed) result prints is = rw is (record { prints = record { whole = tt; quiet = tt; cut = prints.cut; later = prints.later }; status = tt })

@@ -1,7 +1,11 @@
-pub mod Digits
 pub mod InputLemmas
 pub mod RequestLemmas
 pub mod SourceLemmas
+pub mod SourceTexts
+pub mod ToolRequests
+pub mod ToolCourses
+pub mod ListingLemmas
+pub mod ToolSayings
 pub mod EndingLemmas
 pub mod CutLemmas
 pub mod HeadlineLemmas

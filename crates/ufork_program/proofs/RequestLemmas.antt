@@ -6,13 +6,14 @@ use Rattle.cap_format.specs.Image.{IsImage, fault_of}
 use Rattle.cap_format.specs.Numbers.{image_bytes}
 use Rattle.cap_format.specs.declared.image.ImageFault.{ImageFault}
 use Rattle.command_words.specs.declared.words.Options.{Options}
+use Rattle.command_words.specs.declared.words.Command.TheVariants.{Run}
 use Rattle.machine_types.specs.Numbers.{list_bytes, most_quantum}
 use Rattle.machine_types.proofs.LinesRead.{long-text}
 use Rattle.ufork_program.specs.Answer.{Files, named_by}
 use Rattle.ufork_program.specs.Request.{NamesFile, NamesImage, IsScheduleAt, HasSchedule}
 use Rattle.ufork_program.specs.Reading.{Told, IsCommand, IsToldAt, IsNoImageAt, IsScheduleTextAt, IsImageAt, IsScheduleFileAt, IsOptionRead, AreFilesOf, ComesOfFiles}
 use Rattle.ufork_program.specs.declared.request.NamedFiles.{NamedFiles}
-use Rattle.ufork_program.specs.declared.request.CommandRefusal.TheVariants.{Usage, CannotRead, NoImage, NoSchedule, InputFailed, InputTooLong, NoFrames}
+use Rattle.ufork_program.specs.declared.request.CommandRefusal.TheVariants.{Usage, CannotRead, NoImage, NoSchedule, InputFailed, InputTooLong, NoFrames, NoSource}
 use Rattle.ufork_program.specs.declared.request.Stop.{Stop}
 use Rattle.ufork_program.specs.declared.request.Stop.TheVariants.{Refused, NoMemory}
 
@@ -65,7 +66,7 @@ files_of-told words None others = tt
 files_of-told words (Some contents) others = refl
 
 -- and have a content that may stand at an index
-files_of-at : (words : List (List ℕ)) (told : Told) (others : Files) (index : ℕ) (content : List ℕ) → IsToldAt words told index content
+pub files_of-at : (words : List (List ℕ)) (told : Told) (others : Files) (index : ℕ) (content : List ℕ) → IsToldAt words told index content
     → others index ≡ Some content → files_of words told others index ≡ Some content
 unfolding files_of
 files_of-at words None others index content is at = at
@@ -97,7 +98,7 @@ module _ (words : List (List ℕ)) (told : Told) where
 
     -- the image's file failed
     no_file_comes : ComesOfFiles words told (Err (Refused (CannotRead image)))
-    no_file_comes = came_of (λ _. None) (Err (Refused (CannotRead image))) (record { options = options; image = image; command = is.is; which = inl refl })
+    no_file_comes = came_of (λ _. None) (Err (Refused (CannotRead image))) (record { command = Run options image; is = is.is; which = inl refl })
 
     -- the image's file has the one content
     has_one : (file : List ℕ) (other : Option (List ℕ)) → IsToldAt words told image file → files_of words told (one_of image file other) image ≡ Some file
@@ -110,9 +111,10 @@ module _ (words : List (List ℕ)) (told : Told) where
     -- it is no image
     no_image_comes : (fault : ImageFault) → IsNoImageAt words told image fault → ComesOfFiles words told (Err (Refused (NoImage fault)))
     no_image_comes fault wrong = came_of (one_of image wrong.file None) (Err (Refused (NoImage fault))) (record {
-      options = options;
+      command = Run options image;
       file = wrong.file;
-      names = names_one wrong.file None wrong.told_is;
+      names = record { is = is.is; found = has_one wrong.file None wrong.told_is };
+      reads = tt;
       fault_is = wrong.fault_is;
     })
 
@@ -125,6 +127,7 @@ module _ (words : List (List ℕ)) (told : Told) where
     image_stop_comes (Refused InputFailed) h = absurd h
     image_stop_comes (Refused InputTooLong) h = absurd h
     image_stop_comes (Refused (NoFrames pages frames)) h = absurd h
+    image_stop_comes (Refused (NoSource fault)) h = absurd h
     image_stop_comes NoMemory h = no_memory_comes
 
     module _ (file : List ℕ) (at : IsToldAt words told image file) (fit : IsImage file) where
@@ -148,9 +151,8 @@ module _ (words : List (List ℕ)) (told : Told) where
       no_text_comes : (index : ℕ) → options.schedule ≡ Some index → ComesOfFiles words told (Err (Refused (CannotRead index)))
       unfolding with_text
       no_text_comes index named = came_of (one_of image file None) (Err (Refused (CannotRead index))) (record {
-        options = options;
-        image = image;
-        command = is.is;
+        command = Run options image;
+        is = is.is;
         which = inr (named, subst (λ (found : Option (List ℕ)). IsSomeAnd found IsImage) (sym (has_one file None at)) fit);
       })
 
@@ -179,6 +181,7 @@ module _ (words : List (List ℕ)) (told : Told) where
       schedule_stop_comes index named (Refused InputFailed) h = absurd h
       schedule_stop_comes index named (Refused InputTooLong) h = absurd h
       schedule_stop_comes index named (Refused (NoFrames pages frames)) h = absurd h
+      schedule_stop_comes index named (Refused (NoSource fault)) h = absurd h
       schedule_stop_comes index named NoMemory h = no_memory_comes
 
       -- and what an option names

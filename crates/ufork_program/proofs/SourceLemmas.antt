@@ -15,13 +15,13 @@ use Rattle.ufork_program.specs.declared.request.Guest.{Guest}
 use Rattle.ufork_program.specs.declared.request.NamedFiles.{NamedFiles}
 use Rattle.ufork_program.specs.declared.request.Request.{Request}
 use Rattle.ufork_program.specs.declared.request.Request.TheVariants as request
-use Rattle.ufork_program.specs.declared.request.CommandRefusal.TheVariants.{Usage, CannotRead, NoImage, NoSchedule, InputFailed, InputTooLong, NoFrames}
+use Rattle.ufork_program.specs.declared.request.CommandRefusal.TheVariants.{Usage, CannotRead, NoImage, NoSchedule, InputFailed, InputTooLong, NoFrames, NoSource}
 use Rattle.ufork_program.specs.declared.request.Stop.{Stop}
 use Rattle.ufork_program.specs.declared.request.Stop.TheVariants.{Refused, NoMemory}
 use Rattle.ufork_program.proofs.RequestLemmas.{files_of, files_of-told}
 
 -- the bytes that are told, and these where none are
-input_of : Option (List ℕ) → List ℕ → List ℕ
+pub input_of : Option (List ℕ) → List ℕ → List ℕ
 input_of None others = others
 input_of (Some left) others = left
 
@@ -47,7 +47,7 @@ input_of-all (Some left) after taken took end = Consumes-whole (Some left) after
 module _ (words : List (List ℕ)) (told : Told) where
   module _ (left : Option (List ℕ)) where
     -- a request comes of these files, and of the bytes that are told
-    came_from : (files : Files) → IfSome told (λ contents. files ≡ named_by words contents) → (others : List ℕ) (asked : Request)
+    pub came_from : (files : Files) → IfSome told (λ contents. files ≡ named_by words contents) → (others : List ℕ) (asked : Request)
         → IsRequestOf words (record { files = files; input = input_of left others }) asked → ComesOf words told left asked
     came_from files told_is others asked is = record {
       sources = record { files = files; input = input_of left others };
@@ -68,6 +68,7 @@ module _ (words : List (List ℕ)) (told : Told) where
     files_stop_comes (Refused InputFailed) h = absurd h.is
     files_stop_comes (Refused InputTooLong) h = absurd h.is
     files_stop_comes (Refused (NoFrames pages frames)) h = absurd h.is
+    files_stop_comes (Refused (NoSource fault)) h = absurd h.is
     files_stop_comes NoMemory h = came_from h.files h.told_is [] request.NoMemory h.is
 
   module _ (old new : SourceState) (named : NamedFiles) (h : ComesOfFiles words told (Ok named)) where
@@ -87,6 +88,7 @@ module _ (words : List (List ℕ)) (told : Told) where
       longer = (let more = input_of-more old.left new.left took.bytes took.took in omega arith);
     })
     input_stop_comes (Refused (NoFrames pages frames)) took = absurd took
+    input_stop_comes (Refused (NoSource fault)) took = absurd took
     input_stop_comes NoMemory took = came_from old.left h.files h.told_is [] request.NoMemory (rw h.is.names.names.command refl)
 
     module _ (input : List ℕ) (took : TookAll input old new) where

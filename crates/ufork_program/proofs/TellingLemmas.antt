@@ -1,19 +1,23 @@
 -- What follows from a promise where the contents of files and the bytes of the input are told.
-use Rattle.std.proofs.Common.{◌≡◌, ℕ, ◌⊎◌, inl, inr, Bool, List, [], ◌++◌, Option, Some, None, Ok, IsSomeAnd, refl, sym, ap, ◌∙◌, subst}
+use Rattle.std.proofs.Common.{◌≡◌, ℕ, ◌⊎◌, inl, inr, Bool, false, List, [], ◌++◌, Option, Some, None, Ok, IsSomeAnd, refl, sym, ap, ◌∙◌, subst}
 use Rattle.std.specs.Io.KnownBytes.{Consumes, IsAtEnd}
 use Rattle.outside_io.specs.States.{NoneRose}
 use Rattle.outside_io.specs.Answers.{memory_wanted}
+use Rattle.outside_io.specs.Parts.{Part, console_of, Written}
 use Rattle.outside_io.specs.Moments.{Course}
+use Rattle.outside_io.proofs.MomentLemmas.{parts_of-while}
 use Rattle.cap_format.specs.Image.{IsImage}
 use Rattle.command_words.specs.declared.words.Options.{Options}
+use Rattle.command_words.specs.declared.words.Command.{Command}
 use Rattle.command_words.specs.declared.words.Command.TheVariants as command
 use Rattle.command_words.specs.Commands.{read_of}
 use Rattle.ufork_program.specs.Machine.{Machine}
 use Rattle.ufork_program.specs.Input.{Took, TookAll}
-use Rattle.ufork_program.specs.Request.{NamesImage, ReadsInput, NamesTooMany}
-use Rattle.ufork_program.specs.Answer.{Files, Sources, course}
-use Rattle.ufork_program.specs.Headline.{Call, OfSources, Ran, TellsOfFile, InputBroke, TellsOfInput, TellsOfLength, TellsOfFrames, Promises}
-use Rattle.ufork_program.specs.Telling.{Tells, RanThem, FailedThere, FailedAt, BrokeThere, TookThere, NamedThere}
+use Rattle.ufork_program.specs.Request.{file_index, NamesImage, IsScheduleOf, NamesShown, ReadsInput, NamesTooMany}
+use Rattle.ufork_program.specs.Answer.{Files, named_by, Sources, course}
+use Rattle.ufork_program.specs.Headline.{Call, OfSources, WentWhole, Ran, Showed, TellsOfFile, InputBroke, TellsOfInput, TellsOfLength, TellsOfFrames, Promises}
+use Rattle.ufork_program.specs.Telling.{Tells, RanThem, FailedThere, FailedAt, BrokeThere, TookThere, NamedThere, IsScheduleThere, ShownThere}
+use Rattle.ufork_program.proofs.ToolCourses.{shown-leads}
 
 -- Sources with the same files and the same input are the same.
 same-sources : (a b : Sources) → a.files ≡ b.files → a.input ≡ b.input → a ≡ b
@@ -131,22 +135,52 @@ module _ (call : Call) (sources : Sources) (told : Tells call sources) where
   image-found options image None command is h = absurd h
   image-found options image (Some file) command is h = (file, record { names = record { image = image; command = command; content = is }; image = h })
 
-  -- The file that failed is that of the image, or of the schedule behind an image.
-  which-read : (options : Options) (image index : ℕ) → read_of call.words ≡ Ok (command.Run options image)
-      → (index ≡ image) ⊎ ((options.schedule ≡ Some index) × IsSomeAnd (sources.files image) IsImage)
-      → (index ≡ image) ⊎ ((options.schedule ≡ Some index) × (file : List ℕ) × NamesImage call.words sources.files options file)
-  which-read options image index command (inl h) = inl h
-  which-read options image index command (inr h) = let found = image-found options image (sources.files image) command refl h.1 in inr (h.0, found.0, found.1)
+  -- The file that failed is that of the command, or of the schedule behind an image.
+  which-read : (read : Command) (index : ℕ) → read_of call.words ≡ Ok read → (index ≡ file_index read) ⊎ IsScheduleOf sources.files read index
+      → (index ≡ file_index read) ⊎ IsScheduleThere call sources read index
+  which-read read index is (inl h) = inl h
+  which-read (command.Run options image) index is (inr h) = let found = image-found options image (sources.files image) is refl h.1 in inr (h.0, found.0, found.1)
+  which-read (command.Asm file) index is (inr h) = absurd h
+  which-read (command.Disasm file) index is (inr h) = absurd h
+  which-read (command.Check file) index is (inr h) = absurd h
 
   -- So it is by what is told.
   pub failed-at : TellsOfFile call → FailedAt call sources
   failed-at h =
       let read = told-holds call sources _ told h.failed.read in
       record {
-        options = read.options;
-        image = read.image;
-        index = h.failed.index;
         command = read.command;
+        index = h.failed.index;
+        is = read.is;
         last = h.failed.last ∙ ap Some (sym h.failed.word);
-        which = which-read read.options read.image h.failed.index read.command read.which;
+        which = which-read read.command h.failed.index read.is read.which;
       }
+
+  -- What was shown is shown by what is told.
+  pub shown-told : Showed call → ShownThere call sources
+  shown-told h = record {
+    parts = h.parts;
+    named = told-holds call sources _ told h.named;
+    written = subst (λ parts. Written parts (console_of call.old) (console_of call.new)) (parts_of-while None h.parts) h.whole.written;
+    given = h.whole.left.0;
+    empty = h.whole.left.1;
+    unasked = h.unasked;
+  }
+
+  -- With 0 it was that, or a process was run to its end.
+  pub done-told : Ran false call ⊎ Showed call → RanThem false call sources ⊎ ShownThere call sources
+  done-told (inl h) = inl (ran-told false h)
+  done-told (inr h) = inr (shown-told h)
+
+-- What the words name by the contents that are told is shown where no count rose, or memory was wanted.
+pub shows-told : (call : Call) (contents : List ℕ → Option (List ℕ)) (parts : List Part) → Promises call → call.old.files.contents ≡ Some contents → NoneRose call.old call.new
+    → NamesShown call.words (named_by call.words contents) parts
+    → ((call.status ≡ 0) × Written parts (console_of call.old) (console_of call.new)) ⊎ (call.status ≡ memory_wanted.status)
+shows-told call contents parts promises told none names = elim (promises.answered none) [
+  | inl h ↦
+      let files : h.sources.files ≡ named_by call.words contents = rw told at h.told.files in
+      let there : NamesShown call.words h.sources.files parts = subst (λ files. NamesShown call.words files parts) (sym files) names in
+      let whole = subst (WentWhole call) (shown-leads call.words h.sources parts there) h.holds in
+      inl (whole.status, subst (λ p. Written p (console_of call.old) (console_of call.new)) (parts_of-while None parts) whole.written)
+  | inr h ↦ inr h.whole.status
+]

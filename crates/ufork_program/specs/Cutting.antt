@@ -10,7 +10,7 @@ use Rattle.ufork_program.specs.Lines.{cannot_read_line, input_failed_line}
 use Rattle.ufork_program.specs.Machine.{Machine, Setup, start}
 use Rattle.ufork_program.specs.Steps.{step_parts}
 use Rattle.ufork_program.specs.Run.{run_moments, run_end, last_line, run_course, state_after, moments_of}
-use Rattle.ufork_program.specs.Answer.{Sources, course, refused}
+use Rattle.ufork_program.specs.Answer.{Sources, course, refused, shown}
 use Rattle.ufork_program.specs.Request.{NamesGuest, HasLongInput}
 use Rattle.ufork_program.specs.Headline.{Call, Promises}
 use Rattle.ufork_program.specs.Telling.{Tells, BrokeThere, TookThere}
@@ -55,8 +55,22 @@ pub record CutAtInput (call : Call) (sources : Sources) : Type 0 where
   pub kept : call.new.files ≡ call.old.files
   pub front : HasFront call input_failed_line
 
--- Where a part was cut, which is with 7: the board comes back empty where it was the line of a refusal, of which a front is written; and else
--- it stands for the machine of the moment, and the input was read to its end. Where a file or the input had failed first, it is that one's
+-- A part of what is shown of a file was cut: all parts before it are written, and a front of it, and the count of its sink rose. The board comes
+-- back as it was, empty.
+pub record CutInShown (call : Call) (parts : List Part) : Type 0 where
+  pub before : List Part
+  pub part : Part
+  pub after : List Part
+  pub parts_are : parts ≡ before ++ part ∷ after
+  pub some : HasBytes part
+  pub rose : RoseAt part (console_of call.old) (console_of call.new)
+  pub count : ℕ
+  pub written : Written (before ++ front_of count part ∷ []) (console_of call.old) (console_of call.new)
+  pub given : call.left ≡ call.given
+  pub empty : IsEmpty call.left
+
+-- Where a part was cut, which is with 7: the board comes back empty where it was the line of a refusal, of which a front is written, or
+-- a part of what is shown of a file; and else it stands for the machine of the moment, and the input was read to its end. Where a file or the input had failed first, it is that one's
 -- line.
 pub record CutsTell : Type 0 where
   pub of_refusal : (call : Call) (sources : Sources) (answer : Answer) → Promises call → Tells call sources
@@ -64,6 +78,9 @@ pub record CutsTell : Type 0 where
   pub line : (call : Call) (sources : Sources) (status : ℕ) (line : List ℕ) → Promises call → Tells call sources
       → course call.words sources ≡ refused (refusal status line) → CountsBelowLast call.old
       → call.new.files.faults ≡ call.old.files.faults → call.new.input.faults ≡ call.old.input.faults → call.status ≡ write_fault → HasFront call line
+  pub shown : (call : Call) (sources : Sources) (parts : List Part) → Promises call → Tells call sources
+      → course call.words sources ≡ shown parts → CountsBelowLast call.old
+      → call.new.files.faults ≡ call.old.files.faults → call.new.input.faults ≡ call.old.input.faults → call.status ≡ write_fault → CutInShown call parts
   pub run : (call : Call) (sources : Sources) (setup : Setup) → Promises call → Tells call sources
       → course call.words sources ≡ run_course setup → CountsBelowLast call.old → call.new.files.faults ≡ call.old.files.faults
       → call.new.input.faults ≡ call.old.input.faults → call.status ≡ write_fault

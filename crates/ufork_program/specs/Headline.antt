@@ -3,19 +3,20 @@ use Rattle.std.specs.Prelude.{◌≡◌, ◌≢◌, ◌≤◌, ℕ, ◌⊎◌, B
 use Rattle.std.specs.declared.option.Option.{Option}
 use Rattle.outside_io.specs.Faults.{Rose}
 use Rattle.outside_io.specs.States.{Outside, NoneRose, SinksStill, SinkRose, CountsBelowLast}
-use Rattle.outside_io.specs.Parts.{console_of, Written, Quiet, Later}
+use Rattle.outside_io.specs.Parts.{Part, console_of, Written, Quiet, Later}
 use Rattle.outside_io.specs.Answers.{memory_wanted, write_fault}
 use Rattle.outside_io.specs.Moments.{Course, parts_of, CutAt, EndsAt}
 use Rattle.stores.specs.declared.board.Board.{Board}
 use Rattle.stores.specs.Boards.{IsEmpty, Stands}
 use Rattle.cap_format.specs.declared.image.ImageFault.{ImageFault}
+use Rattle.asm_text.specs.declared.source.SourceFault.{SourceFault}
 use Rattle.elf_loader.specs.Loaded.{image_of}
 use Rattle.command_words.specs.Commands.{read_of}
 use Rattle.ufork_program.specs.Machine.{Machine, Setup, start}
 use Rattle.ufork_program.specs.Run.{run_course, run_end}
 use Rattle.ufork_program.specs.Input.{TookAll, TookTooMany, TookUntilFault}
-use Rattle.ufork_program.specs.Answer.{word_at, Sources, course, usage, cannot_read, image_refused, schedule_refused, input_failed, input_too_long, frames_lacked, refused}
-use Rattle.ufork_program.specs.Request.{course_of, NamesNoImage, NamesNoSchedule, NamesGuest, NamesTooMany, ReadsInput, HasLongInput, IsReadAt, IsUsable, AreTold, ComesOf, HasFilesCause, TookSome, HasInputCause}
+use Rattle.ufork_program.specs.Answer.{word_at, Sources, course, usage, cannot_read, image_refused, schedule_refused, input_failed, input_too_long, frames_lacked, source_refused, refused, shown}
+use Rattle.ufork_program.specs.Request.{course_of, NamesNoImage, NamesNoSchedule, NamesGuest, NamesTooMany, NamesNoSource, NamesShown, ReadsInput, HasLongInput, IsReadAt, IsUsable, AreTold, ComesOf, HasFilesCause, TookSome, HasInputCause}
 use Rattle.ufork_program.specs.declared.request.Request.{Request}
 
 -- A call of the program: its words, what stood outside before and after it, the board that it was handed and the one that it
@@ -81,7 +82,7 @@ pub record TellsOfWords (call : Call) : Type 0 where
   pub fault : HasFault call place
   pub whole : WentWhole call (refused (usage place))
 
--- The count of files rose, and the name that failed last is that of a file that the command reads: of its image, or of its schedule,
+-- The count of files rose, and the name that failed last is that of a file that the command reads: of its own file, or of its schedule,
 -- where the image is one. The input was not asked for.
 pub record FileFailed (call : Call) (name : List ℕ) : Type 0 where
   pub rose : Rose call.old.files.faults call.new.files.faults
@@ -142,6 +143,13 @@ pub record Ran (live : Bool) (call : Call) : Type 0 where
   pub left : Stands call.left (run_end (start setup) setup.config.steps).content
   pub read : TookAll setup.input call.old.input call.new.input
 
+-- The words are a command that runs nothing, on a file in its grammar. What it shows of the file is written, and the input was not asked for.
+pub record Showed (call : Call) : Type 0 where
+  pub parts : List Part
+  pub named : OfSources call (λ sources. NamesShown call.words sources.files parts)
+  pub whole : WentWhole call (shown parts)
+  pub unasked : call.new.input ≡ call.old.input
+
 -- The image's file is no image. It was refused by the first rule that it breaks, in one line, and nothing was run.
 pub record TellsOfImage (call : Call) : Type 0 where
   pub fault : ImageFault
@@ -168,9 +176,16 @@ pub record TellsOfFrames (call : Call) : Type 0 where
   pub read : TookSome call.old.input call.new.input
   pub whole : WentWhole call (refused (frames_lacked pages frames))
 
+-- The text is no source. It was refused by its first fault, in one line, and the input was not asked for.
+pub record TellsOfSource (call : Call) : Type 0 where
+  pub fault : SourceFault
+  pub named : OfSources call (λ sources. NamesNoSource call.words sources.files fault)
+  pub whole : WentWhole call (refused (source_refused fault))
+  pub unasked : call.new.input ≡ call.old.input
+
 -- the statuses that there are
 abbrev pub statuses : List ℕ
-statuses = 0 ∷ 2 ∷ 3 ∷ 4 ∷ 5 ∷ 6 ∷ write_fault ∷ 8 ∷ memory_wanted.status ∷ 11 ∷ 12 ∷ []
+statuses = 0 ∷ 2 ∷ 3 ∷ 4 ∷ 5 ∷ 6 ∷ write_fault ∷ 8 ∷ memory_wanted.status ∷ 11 ∷ 12 ∷ 13 ∷ []
 
 -- What the call promises.
 pub record Promises (call : Call) : Type 0 where
@@ -183,8 +198,9 @@ pub record Promises (call : Call) : Type 0 where
   -- of the moment: it stands for the machine after the step whose part was cut, or at the run's end where that was the last line,
   -- and it is empty where it was the line of a refusal. Where a file or the input had failed first, it was that line.
   pub cut_short : call.status ≡ write_fault → CourseCut call ⊎ (LineCut call ⊎ InputLineCut call)
-  -- 0 comes only where the process ended, 8 only where it is live after the configured steps.
-  pub done : call.status ≡ 0 → Ran false call
+  -- 0 comes only where the process ended, or where something was shown of a file and nothing was run; and 8 only where the process is live
+  -- after the configured steps.
+  pub done : call.status ≡ 0 → Ran false call ⊎ Showed call
   pub stopped : call.status ≡ 8 → Ran true call
   -- 2 comes exactly where the words are no command, but for a failing sink, and names the place.
   pub usage : call.status ≡ 2 → TellsOfWords call
@@ -201,6 +217,8 @@ pub record Promises (call : Call) : Type 0 where
   pub input_too_long : call.status ≡ 11 → TellsOfLength call
   -- 12 comes only where the image has more pages than there are frames, and names both numbers.
   pub frames_lacked : call.status ≡ 12 → TellsOfFrames call
+  -- 13 comes only where the text is no source, and names its first fault.
+  pub source_refused : call.status ≡ 13 → TellsOfSource call
   -- 7 comes only where a sink failed.
   pub sink_failed : call.status ≡ write_fault → SinkRose call.old call.new
   -- Where a count rose, and all stood below their last values, the status is that of the fault.

@@ -6,6 +6,7 @@ pub mod Steps
 pub mod Run
 pub mod Kernel
 pub mod Input
+pub mod Tools
 pub mod Answer
 pub mod Request
 pub mod Reading
@@ -15,3 +16,4 @@ pub mod StepLaws
 pub mod Telling
 pub mod Cutting
 pub mod Saying
+pub mod Examples

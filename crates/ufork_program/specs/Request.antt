@@ -3,27 +3,34 @@ use Rattle.std.specs.Prelude.{◌≡◌, ℕ, ◌<◌, ◌≤◌, ◌⊎◌, Lis
 use Rattle.std.specs.declared.option.Option.{Option}
 use Rattle.outside_io.specs.Faults.{Rose}
 use Rattle.outside_io.specs.States.{FilesState, SourceState}
+use Rattle.outside_io.specs.Parts.{Part}
 use Rattle.outside_io.specs.Answers.{Answer, memory_wanted}
 use Rattle.outside_io.specs.Moments.{Course}
 use Rattle.cap_format.specs.declared.image.ImageFault.{ImageFault}
 use Rattle.cap_format.specs.Image.{IsImage, fault_of}
+use Rattle.asm_text.specs.declared.source.SourceFault.{SourceFault}
+use Rattle.asm_image.specs.Assembled.{file_from}
 use Rattle.machine_types.specs.declared.config.Config.{Config}
 use Rattle.elf_loader.specs.Loaded.{IsRead, image_of}
 use Rattle.command_words.specs.declared.words.Options.{Options}
-use Rattle.command_words.specs.declared.words.Command.TheVariants.{Run}
+use Rattle.command_words.specs.declared.words.Command.{Command}
+use Rattle.command_words.specs.declared.words.Command.TheVariants.{Run, Asm, Disasm, Check}
 use Rattle.command_words.specs.Commands.{read_of}
 use Rattle.command_words.specs.Sayings.{IsWithinLimits}
 use Rattle.run_texts.specs.Schedules.{schedule_of}
 use Rattle.ufork_program.specs.Numbers.{most_input}
 use Rattle.ufork_program.specs.Machine.{Machine, Setup}
 use Rattle.ufork_program.specs.Run.{run_course}
+use Rattle.ufork_program.specs.Tools.{file_parts, instr_parts, summary_parts}
 use Rattle.ufork_program.specs.Input.{TookAll, TookTooMany, TookUntilFault}
-use Rattle.ufork_program.specs.Answer.{word_at, Files, named_by, Sources, usage, cannot_read, image_refused, schedule_refused, input_failed, input_too_long, frames_lacked, refused}
+use Rattle.ufork_program.specs.Answer.{word_at, Files, named_by, Sources, usage, cannot_read, image_refused, schedule_refused, input_failed, input_too_long, frames_lacked, source_refused, refused, shown}
 use Rattle.ufork_program.specs.declared.request.Guest.{Guest}
 use Rattle.ufork_program.specs.declared.request.Request.{Request}
 use Rattle.ufork_program.specs.declared.request.Request.TheVariants as request
 use Rattle.ufork_program.specs.declared.request.CommandRefusal.{CommandRefusal}
-use Rattle.ufork_program.specs.declared.request.CommandRefusal.TheVariants.{Usage, CannotRead, NoImage, NoSchedule, InputFailed, InputTooLong, NoFrames}
+use Rattle.ufork_program.specs.declared.request.CommandRefusal.TheVariants.{Usage, CannotRead, NoImage, NoSchedule, InputFailed, InputTooLong, NoFrames, NoSource}
+use Rattle.ufork_program.specs.declared.request.Shown.{Shown}
+use Rattle.ufork_program.specs.declared.request.Shown.TheVariants.{Assembled, Instrs, Summary}
 
 -- the answer to a refusal
 abbrev pub refusal_of : List (List ℕ) → CommandRefusal → Answer
@@ -34,6 +41,13 @@ refusal_of words (NoSchedule line) = schedule_refused line
 refusal_of words InputFailed = input_failed
 refusal_of words InputTooLong = input_too_long
 refusal_of words (NoFrames pages frames) = frames_lacked pages frames
+refusal_of words (NoSource fault) = source_refused fault
+
+-- what is shown of a file
+abbrev pub parts_shown : Shown → List Part
+parts_shown (Assembled file) = file_parts file.items
+parts_shown (Instrs found) = instr_parts found.bytes.items
+parts_shown (Summary found) = summary_parts found.bytes.items
 
 -- what a guest is set up with
 abbrev pub setup_of : Guest → Setup
@@ -44,21 +58,61 @@ abbrev pub course_of : List (List ℕ) → Request → Course (Option Machine)
 course_of words (request.Refused refusal) = refused (refusal_of words refusal)
 course_of words request.NoMemory = refused memory_wanted
 course_of words (request.Run guest) = run_course (setup_of guest)
+course_of words (request.Show parts) = shown (parts_shown parts)
 
--- The words are a command, and the file of its image has this content.
+-- the index of the word that names the file of a command: of the source of `asm`, and of an image
+abbrev pub file_index : Command → ℕ
+file_index (Run options image) = image
+file_index (Asm file) = file
+file_index (Disasm file) = file
+file_index (Check file) = file
+
+-- The words are this command, and its file has this content.
+pub record NamesContent (words : List (List ℕ)) (files : Files) (command : Command) (content : List ℕ) : Type 0 where
+  pub is : read_of words ≡ Ok command
+  pub found : files (file_index command) ≡ Some content
+
+-- a command reads an image, as all do but `asm`
+abbrev pub ReadsImage : Command → Type 0
+ReadsImage (Asm file) = ⊥
+ReadsImage _ = ⊤
+
+-- the file is no image, by this fault
+pub record NamesNoImage (words : List (List ℕ)) (files : Files) (fault : ImageFault) : Type 0 where
+  pub command : Command
+  pub file : List ℕ
+  pub names : NamesContent words files command file
+  pub reads : ReadsImage command
+  pub fault_is : fault_of file ≡ Some fault
+
+-- the words are `asm` on a text that is no source, by this fault
+pub record NamesNoSource (words : List (List ℕ)) (files : Files) (fault : SourceFault) : Type 0 where
+  pub index : ℕ
+  pub text : List ℕ
+  pub names : NamesContent words files (Asm index) text
+  pub fault_is : file_from text ≡ Err fault
+
+-- what a command that runs nothing shows of its file
+abbrev pub IsShownOf : Command → List ℕ → List Part → Type 0
+IsShownOf (Run options image) content parts = ⊥
+IsShownOf (Asm index) text parts = (file : List ℕ) × (file_from text ≡ Ok file) × (parts ≡ file_parts file)
+IsShownOf (Disasm index) file parts = IsImage file × (parts ≡ instr_parts file)
+IsShownOf (Check index) file parts = IsImage file × (parts ≡ summary_parts file)
+
+-- the words are such a command on such a file
+pub record NamesShown (words : List (List ℕ)) (files : Files) (parts : List Part) : Type 0 where
+  pub command : Command
+  pub content : List ℕ
+  pub names : NamesContent words files command content
+  pub shown_is : IsShownOf command content parts
+
+-- The words are `run`, and the file of its image has this content.
 pub record NamesFile (words : List (List ℕ)) (files : Files) (options : Options) (file : List ℕ) : Type 0 where
   pub image : ℕ
   pub command : read_of words ≡ Ok (Run options image)
   pub content : files image ≡ Some file
 
--- that file is no image, by this fault
-pub record NamesNoImage (words : List (List ℕ)) (files : Files) (fault : ImageFault) : Type 0 where
-  pub options : Options
-  pub file : List ℕ
-  pub names : NamesFile words files options file
-  pub fault_is : fault_of file ≡ Some fault
-
--- it is one
+-- that file is an image
 pub record NamesImage (words : List (List ℕ)) (files : Files) (options : Options) (file : List ℕ) : Type 0 where
   pub names : NamesFile words files options file
   pub image : IsImage file
@@ -121,12 +175,16 @@ pub record NamesTooMany (words : List (List ℕ)) (sources : Sources) (pages fra
   pub frames_are : setup.config.frames ≡ frames
   pub fewer : frames < pages
 
--- The word at an index names a file that is read: the image's, or the schedule's, where the image's is an image.
+-- a word of `run` names the schedule, and the image's file is an image
+abbrev pub IsScheduleOf : Files → Command → ℕ → Type 0
+IsScheduleOf files (Run options image) index = (options.schedule ≡ Some index) × IsSomeAnd (files image) IsImage
+IsScheduleOf files _ index = ⊥
+
+-- The word at an index names a file that is read: that of the command, or the schedule's, where the image's is an image.
 pub record IsReadAt (words : List (List ℕ)) (files : Files) (index : ℕ) : Type 0 where
-  pub options : Options
-  pub image : ℕ
-  pub command : read_of words ≡ Ok (Run options image)
-  pub which : (index ≡ image) ⊎ ((options.schedule ≡ Some index) × IsSomeAnd (files image) IsImage)
+  pub command : Command
+  pub is : read_of words ≡ Ok command
+  pub which : (index ≡ file_index command) ⊎ IsScheduleOf files command index
 
 -- It is what these sources lead to, but for a file or an input that failed and for want of memory.
 abbrev pub IsRequestOf : List (List ℕ) → Sources → Request → Type 0
@@ -137,8 +195,10 @@ IsRequestOf words sources (request.Refused (NoSchedule line)) = NamesNoSchedule 
 IsRequestOf words sources (request.Refused InputFailed) = ReadsInput words sources.files
 IsRequestOf words sources (request.Refused InputTooLong) = HasLongInput words sources
 IsRequestOf words sources (request.Refused (NoFrames pages frames)) = NamesTooMany words sources pages frames
+IsRequestOf words sources (request.Refused (NoSource fault)) = NamesNoSource words sources.files fault
 IsRequestOf words sources request.NoMemory = IsOk (read_of words)
 IsRequestOf words sources (request.Run guest) = NamesGuest words sources (setup_of guest)
+IsRequestOf words sources (request.Show parts) = NamesShown words sources.files (parts_shown parts)
 
 -- They are those that are told: the contents of files, and what the input has left.
 pub record AreTold (words : List (List ℕ)) (contents : Option (List ℕ → Option (List ℕ))) (left : Option (List ℕ)) (sources : Sources) : Type 0 where
@@ -153,15 +213,8 @@ pub record ComesOf (words : List (List ℕ)) (contents : Option (List ℕ → Op
 
 -- A file that was not read raised the count, and its name failed last. Else the files are as they were.
 abbrev pub HasFilesCause : List (List ℕ) → FilesState → FilesState → Request → Type 0
-HasFilesCause words old new (request.Refused (Usage place)) = new ≡ old
 HasFilesCause words old new (request.Refused (CannotRead index)) = Rose old.faults new.faults × (new.failed_last ≡ Some (word_at words index))
-HasFilesCause words old new (request.Refused (NoImage fault)) = new ≡ old
-HasFilesCause words old new (request.Refused (NoSchedule line)) = new ≡ old
-HasFilesCause words old new (request.Refused InputFailed) = new ≡ old
-HasFilesCause words old new (request.Refused InputTooLong) = new ≡ old
-HasFilesCause words old new (request.Refused (NoFrames pages frames)) = new ≡ old
-HasFilesCause words old new request.NoMemory = new ≡ old
-HasFilesCause words old new (request.Run guest) = new ≡ old
+HasFilesCause words old new _ = new ≡ old
 
 -- some input was read to its end
 pub record TookSome (old new : SourceState) : Type 0 where
@@ -170,15 +223,11 @@ pub record TookSome (old new : SourceState) : Type 0 where
 
 -- The input was read where nothing else was refused before, and is else as it was.
 abbrev pub HasInputCause : SourceState → SourceState → Request → Type 0
-HasInputCause old new (request.Refused (Usage place)) = new ≡ old
-HasInputCause old new (request.Refused (CannotRead index)) = new ≡ old
-HasInputCause old new (request.Refused (NoImage fault)) = new ≡ old
-HasInputCause old new (request.Refused (NoSchedule line)) = new ≡ old
 HasInputCause old new (request.Refused InputFailed) = TookUntilFault old new
 HasInputCause old new (request.Refused InputTooLong) = TookTooMany old new
 HasInputCause old new (request.Refused (NoFrames pages frames)) = TookSome old new
-HasInputCause old new request.NoMemory = new ≡ old
 HasInputCause old new (request.Run guest) = TookAll guest.input.items old new
+HasInputCause old new _ = new ≡ old
 
 -- A guest's image was read from its bytes, its configuration is within the limits, and there is a frame for each page.
 pub record CanRun (guest : Guest) : Type 0 where
@@ -186,14 +235,15 @@ pub record CanRun (guest : Guest) : Type 0 where
   pub within : IsWithinLimits guest.config
   pub room : guest.image.pages ≤ guest.config.frames
 
+-- what was assembled is an image, and an image that is shown was read from its bytes
+abbrev pub CanShow : Shown → Type 0
+CanShow (Assembled file) = IsImage file.items
+CanShow (Instrs found) = IsRead found.bytes.items (Ok found.image)
+CanShow (Summary found) = IsRead found.bytes.items (Ok found.image)
+
 -- An index is that of one of the words, and what is run was read from its bytes and has a frame for each page, within the limits.
 abbrev pub IsUsable : List (List ℕ) → Request → Type 0
-IsUsable words (request.Refused (Usage place)) = ⊤
 IsUsable words (request.Refused (CannotRead index)) = index < length words
-IsUsable words (request.Refused (NoImage fault)) = ⊤
-IsUsable words (request.Refused (NoSchedule line)) = ⊤
-IsUsable words (request.Refused InputFailed) = ⊤
-IsUsable words (request.Refused InputTooLong) = ⊤
-IsUsable words (request.Refused (NoFrames pages frames)) = ⊤
-IsUsable words request.NoMemory = ⊤
 IsUsable words (request.Run guest) = CanRun guest
+IsUsable words (request.Show parts) = CanShow parts
+IsUsable words _ = ⊤

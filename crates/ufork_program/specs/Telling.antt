@@ -3,21 +3,22 @@ use Rattle.std.specs.Prelude.{◌≡◌, ℕ, ◌+◌, ◌≤◌, ◌≢◌, ◌
 use Rattle.std.specs.declared.option.Option.{Option}
 use Rattle.outside_io.specs.Faults.{Rose}
 use Rattle.outside_io.specs.States.{NoneRose}
-use Rattle.outside_io.specs.Parts.{console_of, Written}
+use Rattle.outside_io.specs.Parts.{Part, console_of, Written}
 use Rattle.outside_io.specs.Answers.{Answer, memory_wanted}
 use Rattle.outside_io.specs.Moments.{parts_of}
-use Rattle.stores.specs.Boards.{Stands}
+use Rattle.stores.specs.Boards.{IsEmpty, Stands}
 use Rattle.cap_format.specs.declared.image.ImageFault.{ImageFault}
+use Rattle.asm_text.specs.declared.source.SourceFault.{SourceFault}
 use Rattle.elf_loader.specs.Loaded.{image_of}
 use Rattle.machine_types.specs.declared.config.Config.{Config}
-use Rattle.command_words.specs.declared.words.Options.{Options}
+use Rattle.command_words.specs.declared.words.Command.{Command}
 use Rattle.command_words.specs.declared.words.Command.TheVariants as command
 use Rattle.command_words.specs.Commands.{read_of}
 use Rattle.ufork_program.specs.Numbers.{most_input}
 use Rattle.ufork_program.specs.Machine.{Setup, start}
 use Rattle.ufork_program.specs.Run.{run_end, status_at, run_course}
 use Rattle.ufork_program.specs.Answer.{word_at, named_by, Sources, course, refused}
-use Rattle.ufork_program.specs.Request.{NamesFiles, NamesImage, NamesNoImage, NamesNoSchedule, NamesTooMany, NamesGuest, ReadsInput, HasLongInput, IsReadAt}
+use Rattle.ufork_program.specs.Request.{file_index, NamesFiles, NamesImage, NamesNoImage, NamesNoSchedule, NamesNoSource, NamesShown, NamesTooMany, NamesGuest, ReadsInput, HasLongInput, IsReadAt}
 use Rattle.ufork_program.specs.Headline.{Call, Promises}
 
 -- the contents of the files that the words name are told, and the bytes that the input has left
@@ -77,20 +78,34 @@ pub record NamedThere (call : Call) (sources : Sources) : Type 0 where
   pub file : List ℕ
   pub names : NamesFiles call.words sources.files config schedule file
 
--- The file that failed last is the image's, or the schedule's, where what is told of the image's is an image.
-pub record FailedAt (call : Call) (sources : Sources) : Type 0 where
-  pub options : Options
-  pub image : ℕ
-  pub index : ℕ
-  pub command : read_of call.words ≡ Ok (command.Run options image)
-  pub last : call.new.files.failed_last ≡ Some (word_at call.words index)
-  pub which : (index ≡ image) ⊎ ((options.schedule ≡ Some index) × (file : List ℕ) × NamesImage call.words sources.files options file)
+-- the word at an index names the schedule of `run`, and what is told of the image's file is an image
+abbrev pub IsScheduleThere : Call → Sources → Command → ℕ → Type 0
+IsScheduleThere call sources (command.Run options image) index = (options.schedule ≡ Some index) × (file : List ℕ) × NamesImage call.words sources.files options file
+IsScheduleThere call sources _ index = ⊥
 
--- What a promise tells: with 0 and 8 what is told was run, with 3 and 6 a file or the input failed, and with 4, 5, 11 and 12 it is what was
--- refused. Where nothing is refused and no count rose, it was run; where something is refused, the status is that of the refusal; or memory
--- was wanted. The input is as it was, unless the words name an image and a schedule.
+-- The file that failed last is that of the command, or the schedule's, where what is told of the image's is an image.
+pub record FailedAt (call : Call) (sources : Sources) : Type 0 where
+  pub command : Command
+  pub index : ℕ
+  pub is : read_of call.words ≡ Ok command
+  pub last : call.new.files.failed_last ≡ Some (word_at call.words index)
+  pub which : (index ≡ file_index command) ⊎ IsScheduleThere call sources command index
+
+-- The words are a command that runs nothing, on a file in its grammar by what is told: what it shows is written, the board comes back as it
+-- was, empty, and so does the input.
+pub record ShownThere (call : Call) (sources : Sources) : Type 0 where
+  pub parts : List Part
+  pub named : NamesShown call.words sources.files parts
+  pub written : Written parts (console_of call.old) (console_of call.new)
+  pub given : call.left ≡ call.given
+  pub empty : IsEmpty call.left
+  pub unasked : call.new.input ≡ call.old.input
+
+-- What a promise tells: with 0 and 8 what is told was run, or with 0 shown, with 3 and 6 a file or the input failed, and with 4, 5, 11, 12 and
+-- 13 it is what was refused. Where nothing is refused and no count rose, it was run or shown; where something is refused, the status is that of
+-- the refusal; or memory was wanted. The input is as it was, unless the words name an image and a schedule.
 pub record PromisesTell : Type 0 where
-  pub done : (call : Call) (sources : Sources) → Promises call → Tells call sources → call.status ≡ 0 → RanThem false call sources
+  pub done : (call : Call) (sources : Sources) → Promises call → Tells call sources → call.status ≡ 0 → RanThem false call sources ⊎ ShownThere call sources
   pub stopped : (call : Call) (sources : Sources) → Promises call → Tells call sources → call.status ≡ 8 → RanThem true call sources
   pub failed : (call : Call) (sources : Sources) → Promises call → Tells call sources → call.status ≡ 3 → FailedThere call sources
   pub broke : (call : Call) (sources : Sources) → Promises call → Tells call sources → call.status ≡ 6 → BrokeThere call sources
@@ -101,6 +116,11 @@ pub record PromisesTell : Type 0 where
   pub too_long : (call : Call) (sources : Sources) → Promises call → Tells call sources → call.status ≡ 11 → TookThere call sources
   pub no_frames : (call : Call) (sources : Sources) → Promises call → Tells call sources → call.status ≡ 12
       → (pages : ℕ) × (frames : ℕ) × NamesTooMany call.words sources pages frames × (call.new.input.left ≡ Some [])
+  pub no_source : (call : Call) (sources : Sources) → Promises call → Tells call sources → call.status ≡ 13
+      → (fault : SourceFault) × NamesNoSource call.words sources.files fault
+  pub shows : (call : Call) (contents : List ℕ → Option (List ℕ)) (parts : List Part) → Promises call → call.old.files.contents ≡ Some contents → NoneRose call.old call.new
+      → NamesShown call.words (named_by call.words contents) parts
+      → ((call.status ≡ 0) × Written parts (console_of call.old) (console_of call.new)) ⊎ (call.status ≡ memory_wanted.status)
   pub complete : (call : Call) (sources : Sources) (setup : Setup) → Promises call → Tells call sources → NoneRose call.old call.new
       → NamesGuest call.words sources setup → (image_of setup.file).pages ≤ setup.config.frames
       → (call.status ≡ status_at (run_end (start setup) setup.config.steps)) ⊎ (call.status ≡ memory_wanted.status)

@@ -2,12 +2,14 @@
 ghost use Rattle.ufork_program.specs.Numbers.{ConstantsAreFixed};
 ghost use Rattle.ufork_program.specs.Steps.{StepsStaySound, CallsLeaveStores};
 ghost use Rattle.ufork_program.specs.Run.{RunsEndAtTheLeast};
-ghost use Rattle.ufork_program.specs.Laws.{CallsAreExact, CoursesAreExact};
+ghost use Rattle.ufork_program.specs.Laws.{CallsAreExact, ListingsAreExact, CoursesAreExact};
 ghost use Rattle.ufork_program.specs.StepLaws.{MachinesAreExact};
 ghost use Rattle.ufork_program.specs.Telling.{PromisesTell};
 ghost use Rattle.ufork_program.specs.Cutting.{CutsTell};
 ghost use Rattle.ufork_program.specs.Saying.{PromisesSay};
+ghost use Rattle.ufork_program.specs.Examples.{WorkedLinesHold};
 
+use cap_format::long_files_are_none;
 use cheri_step::{effects_keep_running, faults_change_nothing};
 use contents::{calls_keep_whole, other_stores_stay, regions_are_kept};
 use elf_loader::starts_are_exact;
@@ -35,10 +37,22 @@ pub fn calls_are_exact()
     ensures { CallsAreExact }
 {}
 
+/// Lines that were worked out by hand are those.
+pub fn worked_lines_hold()
+    ensures { WorkedLinesHold }
+{}
+
+/// What is listed of an image, word by word.
+pub fn listings_are_exact()
+    ensures { ListingsAreExact }
+{}
+
 /// What the program does, by its words, the files and the input.
 pub fn courses_are_exact()
     ensures { CoursesAreExact }
-{}
+{
+    long_files_are_none();
+}
 
 /// While the process is live, a step leaves it one that may run. One that ends has no store.
 pub fn steps_stay_sound()
@@ -59,13 +73,13 @@ pub fn machines_are_exact()
     calls_keep_whole();
 }
 
-/// What a call's promise comes to where the contents of files and the bytes of the input are told: what was run, what was refused, and
-/// what failed.
+/// What a call's promise comes to where the contents of files and the bytes of the input are told: what was run or
+/// shown, what was refused, and what failed.
 pub fn promises_tell()
     ensures { PromisesTell }
 {}
 
-/// What it comes to where a part was cut: which part of which step or line it is, and which board comes back.
+/// What it comes to where a part was cut: which part of which step, line or listing it is, and which board comes back.
 pub fn cuts_tell()
     ensures { CutsTell }
 {

@@ -1,70 +1,12 @@
-// Lines, made on the stack.
-ghost use Rattle.std.specs.Prelude.{◌≡◌, ◌+◌, ◌≤◌, ◌^◌, ◌<◌, ◌++◌, if◌then◌else◌, codes, length, decimal};
+// The lines of the program.
+ghost use Rattle.std.specs.Prelude.{◌≡◌, ◌≤◌, ◌++◌, if◌then◌else◌, codes, length};
 ghost use Rattle.outside_io.specs.States.{PrintsText};
-ghost use Rattle.ufork_program.specs.Lines.{exit_line, done_line, stopped_line, cannot_read_line, usage_line, schedule_refused_line, input_failed_line, input_too_long_line, frames_lacked_line, reason_text, image_refused_line};
+ghost use Rattle.ufork_program.specs.Lines.{exit_line, done_line, stopped_line, cannot_read_line, usage_line, schedule_refused_line, input_failed_line, input_too_long_line, frames_lacked_line, reason_text, image_refused_line, source_reason_text, source_refused_line, image_line};
 
+use asm_text::{SourceFault, SourceReason};
 use cap_format::{ImageFault, ImageReason};
-use itoa::write_digits;
 use outside_io::{Failed, Sink};
-use std::marker::Model;
-
-/// The most bytes of a line.
-const ROOM: usize = 96;
-
-/// A line that is put together from its end, in a buffer that it fills from its end.
-#[derive(Drop)]
-struct Line {
-    bytes: [u8; ROOM],
-    start: usize,
-}
-
-impl Model for Line {
-    ghost use Rattle.std.specs.Prelude.{List, ℕ, drop, ◌≤◌};
-
-    ghost Value = { List ℕ };
-
-    ghost view = { λ line. drop line.start line.bytes };
-
-    ghost invariant = { λ line. line.start ≤ 96 };
-}
-
-impl Line {
-    ghost use Rattle.std.specs.Prelude.{[]};
-
-    fn new() -> Line
-        ensures { result ≡ [] }
-    {
-        Line {
-            bytes: [0; ROOM],
-            start: ROOM,
-        }
-    }
-
-    // Puts a text before what is there.
-    fn put(&mut self, text: &[u8])
-        requires { length text.now + length self.old ≤ 96 }
-        ensures { self.new ≡ text.now ++ self.old }
-    {
-        let start = self.start - text.len();
-        self.bytes[start..self.start].copy_from_slice(text);
-        self.start = start;
-    }
-
-    // Puts a number before what is there, in at most 20 digits.
-    fn put_number(&mut self, n: u64)
-        requires { 20 + length self.old ≤ 96 }
-        ensures text { self.new ≡ decimal n ++ self.old }
-        ensures room { length self.new ≤ 20 + length self.old }
-    {
-        self.start = write_digits(n, &mut self.bytes, self.start);
-    }
-
-    fn text(&self) -> &[u8]
-        ensures { result.now ≡ self.now }
-    {
-        &self.bytes[self.start..]
-    }
-}
+use text_line::Line;
 
 /// Writes `exit ID STATUS`, by one write.
 pub fn write_exit<E: Sink>(id: u64, status: u64, err: &mut E) -> Result<(), Failed>
@@ -214,4 +156,62 @@ pub fn write_cannot_read<E: Sink>(name: &str, err: &mut E) -> Result<(), Failed>
 {
     err.write(b"ufork: cannot read ")?;
     write_name(name, err)
+}
+
+// The text of a source's reason.
+fn source_reason_text(reason: SourceReason) -> &'static [u8]
+    ensures is { result.now ≡ source_reason_text reason }
+    ensures short { length result.now ≤ 13 }
+{
+    match reason {
+        SourceReason::TooLong => b"TooLong",
+        SourceReason::BadText => b"BadText",
+        SourceReason::BadStatement => b"BadStatement",
+        SourceReason::NoSegment => b"NoSegment",
+        SourceReason::BadSegment => b"BadSegment",
+        SourceReason::TooMany => b"TooMany",
+        SourceReason::BadAlign => b"BadAlign",
+        SourceReason::AfterBss => b"AfterBss",
+        SourceReason::Misplaced => b"Misplaced",
+        SourceReason::TooLarge => b"TooLarge",
+        SourceReason::Empty => b"Empty",
+        SourceReason::Twice => b"Twice",
+        SourceReason::UnknownLabel => b"UnknownLabel",
+        SourceReason::OutOfRange => b"OutOfRange",
+        SourceReason::BadCap => b"BadCap",
+        SourceReason::NoEntry => b"NoEntry",
+    }
+}
+
+/// Writes `ufork: source refused: line LINE: REASON`, by one write.
+pub fn write_source_refused<E: Sink>(fault: SourceFault, err: &mut E) -> Result<(), Failed>
+    ensures { PrintsText (source_refused_line fault) (E.state err.old) (E.state err.new) result }
+{
+    let mut line = Line::new();
+    line.put(b"\n");
+    line.put(source_reason_text(fault.reason));
+    line.put(b": ");
+    line.put_number(fault.line);
+    line.put(b"ufork: source refused: line ");
+    err.write(line.text())
+}
+
+/// Writes `image PAGES pages RELOCATIONS relocations entry ENTRY`, by one write.
+pub fn write_image<O: Sink>(
+    pages: u64,
+    relocations: u64,
+    entry: u64,
+    out: &mut O,
+) -> Result<(), Failed>
+    ensures { PrintsText (image_line pages relocations entry) (O.state out.old) (O.state out.new) result }
+{
+    let mut line = Line::new();
+    line.put(b"\n");
+    line.put_number(entry);
+    line.put(b" relocations entry ");
+    line.put_number(relocations);
+    line.put(b" pages ");
+    line.put_number(pages);
+    line.put(b"image ");
+    out.write(line.text())
 }

@@ -7,16 +7,18 @@ ghost use Rattle.outside_io.specs.Answers.{Answers, write_fault};
 ghost use Rattle.outside_io.specs.Moments.{EndsAt};
 ghost use Rattle.stores.specs.Boards.{IsEmpty, made_frames};
 ghost use Rattle.ufork_program.specs.Run.{run_course};
-ghost use Rattle.ufork_program.specs.Request.{course_of, refusal_of, setup_of, CanRun, IsUsable};
+ghost use Rattle.ufork_program.specs.Request.{course_of, refusal_of, setup_of, parts_shown, CanRun, CanShow, IsUsable};
+ghost use Rattle.ufork_program.specs.Answer.{shown_answer};
 ghost use Rattle.ufork_program.specs.Headline.{call, IsLeftOn, Went, Promises};
 
 use crate::kernel::Kernel;
 use crate::lines::{
     write_cannot_read, write_frames_lacked, write_image_refused, write_input_failed,
-    write_input_too_long, write_schedule_refused, write_usage,
+    write_input_too_long, write_schedule_refused, write_source_refused, write_usage,
 };
-use crate::request::{CommandRefusal, Guest, Request, read_request};
+use crate::request::{CommandRefusal, Guest, Request, Shown, read_request};
 use crate::run::print_run;
+use crate::tools::write_shown;
 use full_space::FullSpace;
 use outside_io::{Failed, Files, Sink, Source};
 use std::alloc::Global;
@@ -62,7 +64,16 @@ fn refuse<O: Sink, E: Sink>(
             12,
             write_frames_lacked(u64::from(pages), u64::from(frames), err),
         ),
+        CommandRefusal::NoSource(fault) => answered(13, write_source_refused(fault, err)),
     }
+}
+
+// Writes what is shown of a file. The errors stay as they were.
+fn show<O: Sink, E: Sink>(shown: Shown, out: &mut O, err: &E) -> Result<u8, Failed>
+    requires { CanShow shown }
+    ensures { Answers (shown_answer (parts_shown shown)) (console (O.state out.old) (E.state err.now)) (console (O.state out.new) (E.state err.now)) result }
+{
+    answered(0, write_shown(&shown, out, err))
 }
 
 // Runs a guest on an empty board.
@@ -115,6 +126,7 @@ fn answer_request<O: Sink, E: Sink>(
         Request::Run(guest) => return run_guest(guest, board, out, err),
         Request::NoMemory => Ok(10),
         Request::Refused(refusal) => refuse(words, refusal, out, err),
+        Request::Show(shown) => show(shown, out, err),
     };
     Ended {
         status: status_of(written),
@@ -154,23 +166,28 @@ fn read_and_write<F: Files, I: Source, O: Sink, E: Sink>(
 
 /// Does all that the program does, and gives the status with which it ends and the board.
 ///
-/// `words` are those of the command line without the program's name. So far there is one command, `run`, with six options, and then the
-/// name of an image's file. It runs the image, writes the console's bytes to `out`, and to `err` a line for the end of the process and
-/// one for the end of the run.
+/// `words` are those of the command line without the program's name: a command, the options of `run`, and the name of a file.
+///
+/// | Command | What it does |
+/// |---|---|
+/// | `run` | runs an image, writes the console's bytes to `out`, and to `err` a line for the end of the process and one for the end of the run |
+/// | `asm` | writes the image of a source to `out`, by one write |
+/// | `disasm` | writes the instructions of an image to `out`, a line and a write for each word of a segment whose pages may be executed |
+/// | `check` | writes a line on an image to `out` |
 ///
 /// `board` is empty and was made with [`MOST_FRAMES`](cap_format::MOST_FRAMES) frames. It comes back as the machine's stores at the
 /// end, and empty where nothing was run.
 ///
-/// What is refused is told in this order, and what stands later in it is not asked for: the words, the image's file, the image, the
-/// schedule's file, the schedule, the console's input, its length, the frames. The input is read whole before the first instruction, in
+/// What is refused is told in this order, and what stands later in it is not asked for: the words, the file, the image or the source; and
+/// for `run` the schedule's file, the schedule, the console's input, its length, the frames. The other commands leave `input` as it was. The input is read whole before the first instruction, in
 /// pieces of at most 4096 bytes; of one that is too long, 1048577 bytes are taken.
 ///
 /// | Status | When | What `err` gains |
 /// |---|---|---|
-/// | 0 | the process ended | `exit 1 STATUS` and `done STEPS` |
+/// | 0 | the process ended, or a command other than `run` wrote all that it shows | `exit 1 STATUS` and `done STEPS`, or nothing |
 /// | 2 | the words are no command | `ufork: usage: word PLACE` |
 /// | 3 | a file was not read: its count of faults rose | `ufork: cannot read NAME` |
-/// | 4 | the image's file is no image | `ufork: image refused: REASON at PLACE` |
+/// | 4 | the file is no image | `ufork: image refused: REASON at PLACE` |
 /// | 5 | the schedule's text is none | `ufork: schedule refused: line LINE` |
 /// | 6 | the input was not read: its count of faults rose | `ufork: input failed` |
 /// | 7 | a write failed: the count of `out` or of `err` rose | what came before it |
@@ -178,6 +195,7 @@ fn read_and_write<F: Files, I: Source, O: Sink, E: Sink>(
 /// | 10 | memory was wanted for a file, for what was read of it, or for the input | nothing |
 /// | 11 | the input has over 1048576 bytes | `ufork: input too long` |
 /// | 12 | the image has more pages than there are frames | `ufork: image needs PAGES pages, FRAMES frames` |
+/// | 13 | the text is no source of the assembler | `ufork: source refused: line LINE: REASON` |
 ///
 /// Each sentence of the contract is a field of `Promises`, in specs/Headline.antt.
 pub fn ufork<F: Files, I: Source, O: Sink, E: Sink>(

@@ -22,4 +22,10 @@ returns c = record {
   a_step_more = refl;
   defaults = refl;
   all_options = refl;
+  no_source = refl;
+  two_sources = refl;
+  option_of_check = refl;
+  asm = refl;
+  disasm = refl;
+  check = refl;
 }

@@ -1,5 +1,5 @@
 use Rattle.std.proofs.Common.{◌≡◌, ◌∙◌, sym, ap, ◌+◌, ◌<◌, ◌∷◌, length, drop, map, length-set, Some, None, arith}
-use Rattle.std.specs.Prelude.{string_bytes}
+use Rattle.std.specs.Prelude.{string_bytes, codes}
 use Rattle.std.proofs.lemmas.List.{length-map}
 use Rattle.command_words.specs.Grammar.{option_named, run_options, options_but}
 use Rattle.command_words.specs.Reading.{row_of, place_of, name_of, fault_at}
@@ -25,7 +25,7 @@ returns-in_default c =
     let word = c.index-words-at.result in
     let words = word-and-more string_bytes c.args.words.now c.loop-at.at word c.index-words-at.is c.loop-at-test.true in
     let none : option_named left.0 (string_bytes word) ≡ None = rw (← c.as_str.ensures.value) (left-none c.loop-at.used left.0 c.as_str.result.now left.1 c.in_default.ensures) in
-    c.read_image_name.ensures ∙ sym (left.2 ∙ rw words (last-step left.0 c.loop-at.options c.loop-at.at (string_bytes word) _ none))
+    c.read_last.ensures ∙ sym (left.2 ∙ rw words (last-step (codes "run") left.0 c.loop-at.options c.loop-at.at (string_bytes word) _ none))
 
 -- the word that was read is the option's name
 read-name : (c : In-Some) → drop c.loop-at.at (map string_bytes c.args.words.now) ≡ (row_of c.in-Some.name).name ∷ drop (c.loop-at.at + 1) (map string_bytes c.args.words.now)
@@ -44,7 +44,7 @@ returns-then-at-words c =
     let left = c.loop-at.invariant.read in
     let some = (goal.at.returns-then-at-words c).In-Some in
     let none = no-word string_bytes c.args.words.now (c.loop-at.at + 1) (omega arith) in
-    c.fault.ensures ∙ sym (left.2 ∙ rw (read-name some, none) (lacking-step left.0 c.loop-at.options c.loop-at.at (row_of c.in-Some.name).name (row_of c.in-Some.name) (read-row some)))
+    c.fault.ensures ∙ sym (left.2 ∙ rw (read-name some, none) (lacking-step (codes "run") left.0 c.loop-at.options c.loop-at.at (row_of c.in-Some.name).name (row_of c.in-Some.name) (read-row some)))
 
 pub returns-in_default-with_value : goal.returns-in_default-with_value
 returns-in_default-with_value c =
@@ -54,7 +54,7 @@ returns-in_default-with_value c =
     let words = word-and-more string_bytes c.args.words.now (c.loop-at.at + 1) value c.index-words-at-in-loop-at.is (omega arith) in
     let wrong = sym (rw c.as_str-in-loop-at.ensures.value at c.in_default-with_value.ensures) in
     c.fault-in_default-with_value.ensures
-    ∙ sym (left.2 ∙ rw (read-name some, words) (wrong-step left.0 c.loop-at.options c.loop-at.at c.in-Some.name (string_bytes value) _ (read-row some) wrong))
+    ∙ sym (left.2 ∙ rw (read-name some, words) (wrong-step (codes "run") left.0 c.loop-at.options c.loop-at.at c.in-Some.name (string_bytes value) _ (read-row some) wrong))
 
 pub loop-at-preserved : goal.loop-at-preserved
 loop-at-preserved c =
@@ -64,7 +64,7 @@ loop-at-preserved c =
     let words = word-and-more string_bytes c.args.words.now (c.loop-at.at + 1) value c.index-words-at-in-loop-at.is (omega arith) in
     let fits = sym (rw c.as_str-in-loop-at.ensures.value at c.in-Some-with_value.ensures) in
     let behind = drop (c.loop-at.at + 1 + 1) (map string_bytes c.args.words.now) in
-    let step = option-step left.0 c.loop-at.options c.in-Some-with_value.more c.loop-at.at c.in-Some.name (string_bytes value) behind (read-row some) fits in
+    let step = option-step (codes "run") left.0 c.loop-at.options c.in-Some-with_value.more c.loop-at.at c.in-Some.name (string_bytes value) behind (read-row some) fits in
     let place : place_of c.in-Some.name < length c.loop-at.used = omega (arith, place-within c.in-Some.name) in
     let offers = offers-but c.loop-at.used left.0 (row_of c.in-Some.name).name c.in-Some.name left.1 (own-name c.in-Some.name) place in
     let index : c.loop-at.at + 1 + 1 ≡ c.loop-at.at + 2 = omega arith in
@@ -79,4 +79,4 @@ returns c =
     let left = c.loop-at.invariant.read in
     let none = no-word string_bytes c.args.words.now c.loop-at.at c.loop-at-test.false in
     let place : c.loop-at.at + 1 ≡ length c.args.words.now + 1 = omega arith in
-    c.fault-2.ensures ∙ sym (left.2 ∙ rw none (none-step left.0 c.loop-at.options c.loop-at.at) ∙ ap fault_at place)
+    c.fault-2.ensures ∙ sym (left.2 ∙ rw none (none-step (codes "run") left.0 c.loop-at.options c.loop-at.at) ∙ ap fault_at place)

@@ -1,5 +1,5 @@
 use Rattle.std.proofs.Common.{◌≡◌, ◌-◌, ◌≤◌, List, length, map, drop}
-use Rattle.std.specs.Prelude.{string_bytes}
+use Rattle.std.specs.Prelude.{string_bytes, codes}
 use Rattle.command_words.specs.Grammar.{OptionRow}
 use Rattle.command_words.specs.Commands.{read_of}
 use Rattle.command_words.proofs.Reader.{read_from}
@@ -11,7 +11,7 @@ abbrev pub invariant-loop-at : goal.invariant-loop-at
 invariant-loop-at l = record {
   within : l.at ≤ length l.words;
   all : length l.used ≡ 6;
-  read : (left : List OptionRow) × Offers l.used left × (read_of (map string_bytes l.words) ≡ read_from left l.options l.at (drop l.at (map string_bytes l.words)));
+  read : (left : List OptionRow) × Offers l.used left × (read_of (map string_bytes l.words) ≡ read_from (codes "run") left l.options l.at (drop l.at (map string_bytes l.words)));
 }
 
 abbrev pub decreases-loop-at : goal.decreases-loop-at

@@ -1,13 +1,13 @@
-use Rattle.std.proofs.Common.{true, false, inl, inr}
+use Rattle.std.proofs.Common.{true, inl, inr}
 use Rattle.ufork_program.specs.Run.{run_course}
 use Rattle.ufork_program.specs.Answer.{refused}
 use Rattle.ufork_program.proofs.CourseLemmas.{run_leads}
-use Rattle.ufork_program.proofs.TellingLemmas.{told-holds, ran-told, failed-told, broke-told, long-told, frames-told, status-told, input-told, named-there, failed-at}
+use Rattle.ufork_program.proofs.TellingLemmas.{told-holds, ran-told, failed-told, broke-told, long-told, frames-told, status-told, input-told, named-there, failed-at, done-told, shows-told}
 use Rattle.ufork_program.proofs.laws.promises_tell.Goals as goal
 
 pub returns : goal.returns
 returns c = record {
-  done = λ call sources promises told is. ran-told call sources told false (promises.done is);
+  done = λ call sources promises told is. done-told call sources told (promises.done is);
   stopped = λ call sources promises told is. ran-told call sources told true (promises.stopped is);
   failed = λ call sources promises told is. failed-told call sources told (promises.file_failed is);
   broke = λ call sources promises told is. broke-told call sources told (promises.input_failed is);
@@ -15,6 +15,8 @@ returns c = record {
   no_schedule = λ call sources promises told is. let h = promises.schedule_refused is in (h.line, told-holds call sources _ told h.named);
   too_long = λ call sources promises told is. long-told call sources told (promises.input_too_long is);
   no_frames = λ call sources promises told is. frames-told call sources told (promises.frames_lacked is);
+  no_source = λ call sources promises told is. let h = promises.source_refused is in (h.fault, told-holds call sources _ told h.named);
+  shows = λ call contents parts promises told none names. shows-told call contents parts promises told none names;
   complete = λ call sources setup promises told none named room.
       status-told call sources told (run_course setup) promises none (run_leads call.words sources setup named room);
   refuses = λ call sources answer promises told none leads. status-told call sources told (refused answer) promises none leads;

@@ -1,7 +1,7 @@
 use Rattle.std.proofs.Common.{◌≡◌, ◌<◌, ◌∙◌, sym, ap, map, length, [], string_bytes, arith}
 use Rattle.std.proofs.lemmas.List.{get_or-map, length-map}
 use Rattle.ufork_program.specs.Answer.{word_at}
-use Rattle.ufork_program.specs.Lines.{usage_line, cannot_read_line, image_refused_line, schedule_refused_line, input_failed_line, input_too_long_line, frames_lacked_line}
+use Rattle.ufork_program.specs.Lines.{usage_line, cannot_read_line, image_refused_line, schedule_refused_line, input_failed_line, input_too_long_line, frames_lacked_line, source_refused_line}
 use Rattle.ufork_program.proofs.LeftLemmas.{line_answered}
 use Rattle.ufork_program.proofs.top.refuse.Goals as goal
 
@@ -36,3 +36,7 @@ returns-in-InputTooLong g c =
 pub returns-in-NoFrames : goal.returns-in-NoFrames
 returns-in-NoFrames g c =
     rw (c.in-NoFrames.is, sym c.from.ensures, sym c.from-in-NoFrames.ensures) (line_answered _ (frames_lacked_line c.from.result c.from-in-NoFrames.result) _ _ _ _ _ (λ e. cc) c.write_frames_lacked.ensures c.answered-in-NoFrames.ensures)
+
+pub returns-in-NoSource : goal.returns-in-NoSource
+returns-in-NoSource g c =
+    rw c.in-NoSource.is (line_answered _ (source_refused_line c.in-NoSource.fault) _ _ _ _ _ (λ e. cc) c.write_source_refused.ensures c.answered-in-NoSource.ensures)

@@ -1,0 +1,17 @@
+pub mod Parts
+pub mod WordParts
+pub mod NumberParts
+pub mod Hexadecimals
+pub mod PartsRead
+pub mod InstrParts
+pub mod InstrWords
+pub mod InstrTokens
+pub mod InstrLines
+pub mod FedLines
+pub mod ValuesGoBack
+pub mod SourceLines
+pub mod WordRules
+pub mod WordSegments
+pub mod ProgramFront
+pub mod CodeAssembled
+pub mod StatementTexts
