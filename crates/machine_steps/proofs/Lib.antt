@@ -1,0 +1,17 @@
+pub mod WorkedSteps
+pub mod AgreeingSteps
+pub mod AppliedSteps
+pub mod FullSteps
+pub mod EndedEffects
+pub mod UntouchedSteps
+pub mod AlikeSteps
+pub mod InstructionContents
+pub mod InstructionEffects
+pub mod Clocks
+pub mod GoodSteps
+pub mod Dispatches
+pub mod RunEnds
+pub mod SoundRuns
+pub mod StartedClasses
+pub mod StartedMachines
+pub mod KeptParts

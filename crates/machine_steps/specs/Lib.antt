@@ -1,0 +1,5 @@
+pub mod Works
+pub mod Steps
+pub mod Runs
+pub mod Laws
+pub mod Examples
