@@ -1,7 +1,7 @@
 -- What each row of a call makes has one of the shapes.
 use Rattle.std.proofs.Common.{◌≡◌, ◌≢◌, ◌∙◌, sym, ap, refl, ℕ, ◌+◌, ◌-◌, ◌%◌, ◌^◌, ◌<◌, ◌≤◌, ◌⊎◌, inl, inr, not, ◌||◌, nat_eq, is_some, Option, Some, None, Result, Ok, Err, List, [], ◌∷◌, map, length, cond, min, take, drop, true, false, Bool, slice_set, subst, arith}
 use Rattle.std.specs.Option.{option_map}
-use Rattle.std.proofs.lemmas.Bool.Decides.{nat_tests, eqb_tells}
+use Rattle.std.proofs.lemmas.Bool.Decides.{eqb_tells}
 use Rattle.std.proofs.lemmas.Bool.{false≢true}
 use Rattle.std.proofs.lemmas.List.{length-set, length-map, length-take-le}
 use Rattle.std.proofs.lemmas.List.Elements.{All-drop}
@@ -45,6 +45,7 @@ use Rattle.machine.specs.Shapes.{IsKept, IsEffect, CanCall, CallsAreEffects}
 use Rattle.machine.proofs.SlotLists.{slot-within, changed-other, changed-here}
 use Rattle.machine.proofs.AlikeCalls.{fault-same}
 use Rattle.machine.proofs.RefusedForks.{lack-changes-nothing}
+use Rattle.machine.proofs.NumberedCalls.{number-of-wait, number-of-write}
 use Rattle.machine.proofs.CallRegisters.{IsGoodPcc, next-good, put-inside, put-file, moved-file, moved-inside, moved-good}
 
 -- the laws that rows rest on
@@ -116,13 +117,6 @@ writes-console (Some ConsoleIn) e = absurd (false≢true e)
 writes-console (Some ConsoleOut) e = refl
 writes-console (Some (PipeRead k)) e = absurd (false≢true e)
 writes-console (Some (PipeWrite k)) e = absurd (false≢true e)
-
--- The numbers of calls.
-number-of-wait : (n : ℕ) → call_of n ≡ Wait → n ≡ wait_call
-number-of-wait n e = grind (arith, nat_tests)
-
-number-of-write : (n : ℕ) → call_of n ≡ WriteCall → n ≡ write_call
-number-of-write n e = grind (arith, nat_tests)
 
 -- the bytes of a part of the input are bytes
 bytes-left : (n : ℕ) (bytes : List ℕ) → AreBytes bytes → AreBytes (drop n bytes)

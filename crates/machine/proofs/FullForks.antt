@@ -1,6 +1,5 @@
 -- Under `full` only a fork lacks a frame.
 use Rattle.std.proofs.Common.{◌≡◌, sym, refl, ℕ, ◌+◌, ◌-◌, ◌%◌, ◌<◌, nat_eq, not, Option, Some, None, Result, Ok, Err, List, [], ◌∷◌, length, cond, true, false, Bool, subst, min, arith}
-use Rattle.std.proofs.lemmas.Bool.{eqb-true}
 use Rattle.machine_types.specs.declared.config.Rule.TheVariants.{Full}
 use Rattle.machine_types.specs.declared.errno.Errno.TheVariants.{Ebadf, Echild, Eagain, Enomem, Efault, Enosys}
 use Rattle.machine_types.specs.declared.touches.Access.{Access}
@@ -16,35 +15,19 @@ use Rattle.contents.specs.Laws.{ForkCopiesTheStore}
 use Rattle.contents.specs.Touching.{PreparedTouchesAreNamed}
 use Rattle.machine.specs.declared.process.State.TheVariants.{InWrite}
 use Rattle.machine.specs.declared.report.WorkEnd.TheVariants.{Ended}
-use Rattle.machine.specs.Numbers.{exit_call, fork_call, wait_call, getpid_call, getppid_call, read_call, write_call, yield_call, first_argument}
+use Rattle.machine.specs.Numbers.{first_argument}
 use Rattle.machine.specs.Processes.{integer}
 use Rattle.machine.specs.Processes as processes
 use Rattle.machine.specs.Pipes.{target}
 use Rattle.machine.specs.Machines.{View}
 use Rattle.machine.specs.Effects.{Effect, Answer, Gives, Refuses, answers, waits, ends}
-use Rattle.machine.specs.Calls.{count_of_call, place_of, is_fault, tested, read_size, taken, console_read, is_for_reading, row_read, done_of, sent, printed, console_write, is_for_writing, row_write, forked, fork_at, row_fork, wait_for, row_wait, Call, Exit, Fork, Wait, Getpid, Getppid, ReadCall, WriteCall, Yield, Other, call_of, row}
+use Rattle.machine.specs.Calls.{count_of_call, place_of, is_fault, tested, read_size, taken, console_read, is_for_reading, row_read, done_of, sent, printed, console_write, is_for_writing, row_write, forked, fork_at, row_fork, wait_for, row_wait, Call, Exit, Fork, Wait, Getpid, Getppid, ReadCall, WriteCall, Yield, Other, row}
 use Rattle.machine.proofs.RefusedForks.{lack-is-no_frame}
 
 -- the laws of contents that this needs
 pub record FrameLaws : Type 0 where
   pub forks : ForkCopiesTheStore
   pub named : PreparedTouchesAreNamed
-
--- the number of fork is the only one of that call
-pub number-of-fork : (n : ℕ) → call_of n ≡ Fork → n ≡ fork_call
-number-of-fork n = by (nat_eq n exit_call) (nat_eq n fork_call) (nat_eq n wait_call) (nat_eq n getpid_call) (nat_eq n getppid_call) (nat_eq n read_call) (nat_eq n write_call) (nat_eq n yield_call) refl
-  where
-    by : (exit fork wait getpid getppid read write yields : Bool) → nat_eq n fork_call ≡ fork
-        → cond exit Exit (cond fork Fork (cond wait Wait (cond getpid Getpid (cond getppid Getppid (cond read ReadCall (cond write WriteCall (cond yields Yield Other))))))) ≡ Fork → n ≡ fork_call
-    by true fork wait getpid getppid read write yields is e = absurd (cc)
-    by false true wait getpid getppid read write yields is e = eqb-true n fork_call is
-    by false false true getpid getppid read write yields is e = absurd (cc)
-    by false false false true getppid read write yields is e = absurd (cc)
-    by false false false false true read write yields is e = absurd (cc)
-    by false false false false false true write yields is e = absurd (cc)
-    by false false false false false false true yields is e = absurd (cc)
-    by false false false false false false false true is e = absurd (cc)
-    by false false false false false false false false is e = absurd (cc)
 
 -- fewer frames are free than the process has pages
 abbrev pub HasFewFrames : View → Content → Type 0

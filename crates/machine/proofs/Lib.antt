@@ -33,3 +33,4 @@ pub mod WaitAnswers
 pub mod ReadAnswers
 pub mod WriteAnswers
 pub mod CallAnswers
+pub mod Turns

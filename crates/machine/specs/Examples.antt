@@ -29,7 +29,8 @@ use Rattle.machine.specs.Machines.{Clock, Machine, view_of}
 use Rattle.machine.specs.Readiness.{is_ready, next_ready, outcome_of}
 use Rattle.machine.specs.Effects.{Effect}
 use Rattle.machine.specs.Calls.{called}
-use Rattle.machine.specs.Applying.{applied, dispatched, settled}
+use Rattle.machine.specs.declared.report.Quantum.TheVariants.{Free, Steps}
+use Rattle.machine.specs.Applying.{applied, dispatched, quantum_of, settled}
 
 -- A region's code and its data: the whole of it, at its start.
 abbrev pub code : ℕ → Cap
@@ -291,6 +292,8 @@ pub record TheClockTurns : Type 0 where
   pub dispatch : (dispatched (four_slots 1) 3).clock ≡ record { steps = 7; current = Some 3; quantum = Some 5; last = 3; rest = 2 ∷ [] }
   pub free : (dispatched (record (four_slots 1) { clock = record { steps = 7; current = None; quantum = None; last = 1; rest = [] } }) 3).clock
       ≡ record { steps = 7; current = Some 3; quantum = None; last = 3; rest = [] }
+  pub told : quantum_of (Some 5) ≡ Steps 5
+  pub told_free : quantum_of None ≡ Free
   pub lower : (settled_at (Some 3) Ready).clock ≡ record { steps = 8; current = Some 0; quantum = Some 2; last = 0; rest = 5 ∷ [] }
   pub never : (settled_at None Ready).clock ≡ record { steps = 8; current = Some 0; quantum = None; last = 0; rest = 5 ∷ [] }
   pub spent : (settled_at (Some 1) Ready).clock ≡ record { steps = 8; current = None; quantum = None; last = 0; rest = 5 ∷ [] }

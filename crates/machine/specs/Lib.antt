@@ -13,6 +13,7 @@ pub mod Contents
 pub mod Shapes
 pub mod Isolation
 pub mod Scanning
+pub mod Turning
 pub mod CallLaws
 pub mod CallAnswers
 pub mod Examples

@@ -1,5 +1,6 @@
 // Laws of the machine. Each function states one, does nothing and takes nothing.
 ghost use Rattle.machine.specs.Scanning.{PlacesAreLowest, ChildrenAreFound, PipesAreSeen, NextIsFirst, OutcomesAreExact};
+ghost use Rattle.machine.specs.Turning.{ClocksTurn};
 ghost use Rattle.machine.specs.CallLaws.{CallsAreRefused, TransfersAreRefused};
 ghost use Rattle.machine.specs.CallAnswers.{CallsAreAnswered};
 ghost use Rattle.machine.specs.Steady.{CutsAgree};
@@ -38,6 +39,11 @@ pub fn next_is_first()
 /// When a machine is done, stuck or running; each excludes the others.
 pub fn outcomes_are_exact()
     ensures { OutcomesAreExact }
+{}
+
+/// How the clock goes on after each work, and at a dispatch.
+pub fn clocks_turn()
+    ensures { ClocksTurn }
 {}
 
 /// A refused call changes nothing, and when fork and wait are refused.

@@ -18,8 +18,8 @@ pub use examples::{
     the_clock_turns, transfers_are_tested,
 };
 pub use laws::{
-    calls_are_answered, calls_are_effects, calls_are_refused, children_are_found, cuts_agree,
-    effects_leave_others, effects_stay_steady, full_lacks_at_forks, next_is_first,
+    calls_are_answered, calls_are_effects, calls_are_refused, children_are_found, clocks_turn,
+    cuts_agree, effects_leave_others, effects_stay_steady, full_lacks_at_forks, next_is_first,
     outcomes_are_exact, pipes_are_seen, places_are_lowest, rules_agree_on_calls,
     transfers_are_refused, views_decide_calls,
 };

@@ -1,7 +1,8 @@
 use Rattle.machine.specs.Processes.{integer}
 use Rattle.machine.specs.Numbers.{number_register}
 use Rattle.machine.specs.Calls.{call_of}
-use Rattle.machine.proofs.FullForks.{FrameLaws, row-lacks, number-of-fork}
+use Rattle.machine.proofs.FullForks.{FrameLaws, row-lacks}
+use Rattle.machine.proofs.NumberedCalls.{number-of-fork}
 use Rattle.machine.proofs.laws.full_lacks_at_forks.Goals as goal
 
 pub returns : goal.returns
