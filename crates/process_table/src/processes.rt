@@ -1,12 +1,11 @@
 // The process table.
-ghost use Rattle.std.specs.Prelude.{◌≡◌, ◌<◌, ◌≤◌, ◌-◌, ℕ, true, false, IfSome, IsSome, Some, None, length, map, slice_set, slice_index_or, replicate, IfOk};
+ghost use Rattle.std.specs.Prelude.{◌≡◌, ◌<◌, ◌≤◌, ◌-◌, true, false, Option, IfSome, Some, None, length, map, slice_set, slice_index_or, replicate, IfOk};
 ghost use Rattle.std.specs.List.{list_any, find, range_with_len};
 ghost use Rattle.std.specs.Option.{option_map};
-ghost use Rattle.std.specs.Prelude.{Option};
-ghost use Rattle.process_table.specs.Tables.{told};
 ghost use Rattle.std.specs.Borrow.{sem};
 ghost use Rattle.machine.specs.declared.process.Process.{Process};
-ghost use Rattle.machine.specs.Processes.{process_at, lives, is_live, is_child, Ended, ended_as, ended_child, with_lower, first_ended, orphaned, without_id, left_of, lowest_free_slot};
+ghost use Rattle.machine.specs.Processes.{process_at, lives, is_live, is_child, Ended, ended_child, with_lower, first_ended, orphaned, without_id, left_of, lowest_free_slot};
+ghost use Rattle.process_table.specs.Tables.{told};
 
 use cap_format::Cap;
 use machine::{Process, State, places_are_lowest};
@@ -38,9 +37,8 @@ impl Processes {
     ghost use Rattle.process_table.specs.Lending.{LendsProcess};
     ghost use Rattle.process_table.specs.Tables.{empty, marked, with_slot, added, finished, reaped, next_marked};
 
-    /// A table of so many slots, from 1 to [`MOST_SLOTS`]: none has a process, and none is marked.
-    ///
-    /// No later call takes memory.
+    /// A table of so many slots, from 1 to [`MOST_SLOTS`]: none has a process, and none is marked. It takes all its memory at once, and
+    /// [`NoMemory`] comes where that is not to be had. No later call takes any.
     pub fn new(alloc: Global, slots: u32) -> Result<Processes, NoMemory>
         requires some { 1 ≤ slots }
         requires most { slots ≤ MOST_SLOTS }
@@ -143,8 +141,8 @@ impl Processes {
         }
     }
 
-    /// The process of a slot, a live one ([`is_live`](Processes::is_live)), ends with this status: its live children have no parent from then on, its Zombie children are
-    /// removed, and its slot is free where it has no parent, and else has a Zombie.
+    /// The process of a slot, which is a live one, ends with this status: its live children have no parent from then on, its
+    /// Zombie children are removed, and its slot is free where it has no parent, and else has a Zombie. The marks stay.
     pub fn finish(&mut self, slot: u32, status: u32)
         requires { lives (process_at self.old.processes slot) ≡ true }
         ensures { self.new ≡ finished self.old slot status }
@@ -190,6 +188,16 @@ impl Processes {
         least
     }
 
+    // each process of this id is removed
+    fn remove_all(&mut self, id: u64)
+        ensures { self.new ≡ record self.old { processes = map (without_id id) self.old.processes } }
+    {
+        let count = self.slots.len();
+        for i in 0..count {
+            remove(&mut self.slots[i], id);
+        }
+    }
+
     /// The first slot that is marked as ready, from the one after the last one upwards, then from 0, up to the last one itself. None exactly
     /// where none is marked.
     pub fn next_ready(&self, last: u32) -> Option<u32>
@@ -200,16 +208,6 @@ impl Processes {
         match first_marked(&self.marks, after, self.marks.len()) {
             Some(slot) => Some(slot),
             None => first_marked(&self.marks, 0, after),
-        }
-    }
-
-    // each process of this id is removed
-    fn remove_all(&mut self, id: u64)
-        ensures { self.new ≡ record self.old { processes = map (without_id id) self.old.processes } }
-    {
-        let count = self.slots.len();
-        for i in 0..count {
-            remove(&mut self.slots[i], id);
         }
     }
 
