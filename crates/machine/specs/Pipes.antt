@@ -16,6 +16,10 @@ table_at tables slot = slice_index_or tables slot []
 abbrev pub no_descriptors : Table
 no_descriptors = replicate descriptor_count None
 
+-- descriptor 0 is the console's input, 1 its output
+abbrev pub console_table : Table
+console_table = Some ConsoleIn ∷ Some ConsoleOut ∷ replicate (descriptor_count - 2) None
+
 -- What a descriptor names. A number past the last one names nothing.
 abbrev pub target : Table → ℕ → Option Target
 target table fd = slice_index_or table fd None

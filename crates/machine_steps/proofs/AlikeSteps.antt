@@ -26,6 +26,7 @@ use Rattle.machine.specs.Steady.{CutsAgree}
 use Rattle.machine_steps.specs.Works.{instruction_of, instructed, effect_as, effect_of, work_as, work_of}
 use Rattle.machine_steps.specs.Steps.{made, three_notes, Step, step_of}
 use Rattle.machine_steps.specs.Laws.{MakeAlike, OwnViewDecides}
+use Rattle.machine_steps.proofs.Clocks.{slot-within}
 use Rattle.machine_steps.proofs.AppliedSteps.{EffectsAreShaped, IsWorked, effect_at, step-worked, can-work}
 
 -- Effects.
@@ -76,12 +77,6 @@ work-alike instructions p c d h = by p.state
     by (Zombie status) = refl
 
 -- Slots.
-
--- a slot with a process is one of the list
-slot-within : (processes : List (Option Process)) (slot : ℕ) (p : Process) → process_at processes slot ≡ Some p → slot < length processes
-slot-within [] slot p e = absurd (cc)
-slot-within (o ∷ processes) zero p e = omega arith
-slot-within (o ∷ processes) (suc slot) p e = let rest = slot-within processes slot p e in omega arith
 
 -- each slot is changed
 mapped-slot : (f : Option Process → Option Process) → f None ≡ None → (processes : List (Option Process)) (k : ℕ) → process_at (map f processes) k ≡ f (process_at processes k)

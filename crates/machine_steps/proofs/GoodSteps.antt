@@ -15,13 +15,12 @@ use Rattle.machine.specs.Scanning.{LivesAt, NextIsFirst, OutcomesAreExact}
 use Rattle.machine.specs.Steady.{IsSteady, IsGood, CutsAgree}
 use Rattle.machine_steps.specs.Works.{effect_of}
 use Rattle.machine_steps.specs.Steps.{Step, stepped, step_at, step_in, step_next, step_from, step_of, idle}
-use Rattle.machine_steps.specs.Laws.{MayStep}
-use Rattle.machine_steps.proofs.InstructionEffects.{WorkLaws, effect-is}
+use Rattle.machine_steps.specs.Laws.{MayStep, WorksAreEffects}
 use Rattle.machine_steps.proofs.Clocks.{IsTimed, slot-within, first-quantum, later-quanta, IsApplied, applied-shape, steady-clock, settled-good}
 
 -- the laws that a step goes by
 pub record StepLaws : Type 0 where
-  pub works : WorkLaws
+  pub works : WorksAreEffects
   pub steady : EffectsStaySteady
   pub next : NextIsFirst
   pub outcomes : OutcomesAreExact
@@ -66,7 +65,7 @@ module _ (laws : StepLaws) where
       can = record { there = there; live = live; steady = steady; forks = omega arith }
 
       after : IsSteady n
-      after = laws.steady m slot p e can (effect-is m slot p can laws.works)
+      after = laws.steady m slot p e can (laws.works m slot p can)
 
       shape : IsApplied m n
       shape = applied-shape m slot p e

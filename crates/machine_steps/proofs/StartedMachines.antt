@@ -19,12 +19,12 @@ use Rattle.machine.specs.declared.process.State.TheVariants.{Ready}
 use Rattle.machine.specs.declared.process.Target.TheVariants.{ConsoleIn, ConsoleOut}
 use Rattle.machine.specs.Numbers.{pipe_count}
 use Rattle.machine.specs.Processes.{process_at, is_live, lives}
-use Rattle.machine.specs.Pipes.{Table, table_at, no_descriptors}
+use Rattle.machine.specs.Pipes.{Table, table_at, no_descriptors, console_table}
 use Rattle.machine.specs.Shape.{Slots, IsTarget, IsTable, AreTables, IsPipe, ArePipes, LivesWith, StoresAreOfLive, IsMachine}
 use Rattle.machine.specs.Sound.{IsWithin, HasLive, IdsAreExact, IsUnderway, CallsAreUnderway, Sound}
 use Rattle.machine.specs.Steady.{IsFine, IsGood, CutsAgree}
 use Rattle.machine_steps.specs.Laws.{MayBoot}
-use Rattle.machine_steps.specs.Runs.{Setup, console_table, first_process, start}
+use Rattle.machine_steps.specs.Runs.{Setup, first_process, start}
 use Rattle.machine_steps.proofs.StartedClasses.{started-sound}
 
 -- Slots.

@@ -22,15 +22,16 @@ use Rattle.machine.specs.Steady.{IsGood}
 use Rattle.machine.specs.Shapes.{CanWork, IsEffect}
 use Rattle.machine.specs.Isolation.{IsUntouched}
 use Rattle.contents.specs.Laws.{AreAlike}
+use Rattle.machine_steps.specs.Numbers.{step_limit}
 use Rattle.machine_steps.specs.Works.{effect_of}
 use Rattle.machine_steps.specs.Steps.{Step, step_of, state}
 use Rattle.machine_steps.specs.Runs.{Setup, start, quanta_of, EndsAfter}
 
--- A sound machine that has made fewer than 2^62 steps, so that ids stay in range.
+-- A sound machine that has made fewer steps than the limit, so that ids stay in range.
 pub record MayStep (m : Machine) : Type 0 where
   pub machine : IsMachine m
   pub sound : Sound m
-  pub steps : m.clock.steps < 2 ^ 62
+  pub steps : m.clock.steps < step_limit
 
 -- The work of a live process in a sound machine, an instruction or a call, has an effect of one of the shapes.
 abbrev pub WorksAreEffects : Type 0
@@ -38,7 +39,7 @@ WorksAreEffects = (m : Machine) (slot : ℕ) (p : Process) → CanWork m slot p 
 
 -- Each step keeps all that makes a machine sound, in the cut by which it is proved.
 abbrev pub StepsStayGood : Type 0
-StepsStayGood = (m : Machine) → m.clock.steps < 2 ^ 62 → IsGood m → IsGood (step_of m).next
+StepsStayGood = (m : Machine) → m.clock.steps < step_limit → IsGood m → IsGood (step_of m).next
 
 -- Each part of soundness is kept by every step, from all of them before it.
 abbrev pub CapabilitiesStayInside : Type 0
@@ -80,8 +81,8 @@ pub record MayBoot (setup : Setup) : Type 0 where
 pub record RunsAreSound : Type 0 where
   pub start_machine : (setup : Setup) → MayBoot setup → IsMachine (start setup)
   pub start_sound : (setup : Setup) → MayBoot setup → Sound (start setup)
-  pub machine : (setup : Setup) (k : ℕ) → MayBoot setup → k < 2 ^ 62 → IsMachine (state (start setup) k)
-  pub sound : (setup : Setup) (k : ℕ) → MayBoot setup → k < 2 ^ 62 → Sound (state (start setup) k)
+  pub machine : (setup : Setup) (k : ℕ) → MayBoot setup → k < step_limit → IsMachine (state (start setup) k)
+  pub sound : (setup : Setup) (k : ℕ) → MayBoot setup → k < step_limit → Sound (state (start setup) k)
 
 -- the slot at which a step works: the current one, or the next ready one
 abbrev pub WorksAt : Machine → ℕ → Type 0
@@ -166,5 +167,5 @@ pub record FullNeverLacks : Type 0 where
 
 -- Each run has an end, and one alone, after no more steps than the limit leaves.
 pub record RunsEnd : Type 0 where
-  pub some : (m : Machine) (limit : ℕ) → MayStep m → limit < 2 ^ 62 → (k : ℕ) × (EndsAfter limit m k × (k ≤ limit - m.clock.steps))
+  pub some : (m : Machine) (limit : ℕ) → MayStep m → limit < step_limit → (k : ℕ) × (EndsAfter limit m k × (k ≤ limit - m.clock.steps))
   pub one : (m : Machine) (limit j k : ℕ) → EndsAfter limit m j → EndsAfter limit m k → j ≡ k

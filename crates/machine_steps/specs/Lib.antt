@@ -1,3 +1,4 @@
+pub mod Numbers
 pub mod Works
 pub mod Steps
 pub mod Runs

@@ -9,9 +9,8 @@ use Rattle.elf_loader.specs.Loaded.{image_of}
 use Rattle.elf_loader.specs.Start.{started, start_registers, start_pcc}
 use Rattle.machine.specs.declared.process.Process.{Process}
 use Rattle.machine.specs.declared.process.State.TheVariants.{Ready}
-use Rattle.machine.specs.declared.process.Target.TheVariants.{ConsoleIn, ConsoleOut}
-use Rattle.machine.specs.Numbers.{descriptor_count, pipe_count}
-use Rattle.machine.specs.Pipes.{Table, no_descriptors}
+use Rattle.machine.specs.Numbers.{pipe_count}
+use Rattle.machine.specs.Pipes.{console_table, no_descriptors}
 use Rattle.machine.specs.Machines.{Machine}
 use Rattle.machine.specs.Readiness.{outcome_of}
 use Rattle.machine_steps.specs.Steps.{state}
@@ -31,10 +30,6 @@ quanta_of (pair ∷ schedule) = replicate pair.1 pair.0 ++ quanta_of schedule
 -- process 1, which has no parent
 abbrev pub first_process : ℕ → Process
 first_process entry = record { id = 1; parent = 0; region = process_region; regs = start_registers; pcc = start_pcc entry; state = Ready }
-
--- descriptor 0 is the console's input, 1 its output
-abbrev pub console_table : Table
-console_table = Some ConsoleIn ∷ Some ConsoleOut ∷ replicate (descriptor_count - 2) None
 
 -- The machine where the image in the file was started: process 1 is in slot 0, and the slot dispatched last is the highest.
 abbrev pub start : Setup → Machine

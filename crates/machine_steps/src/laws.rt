@@ -30,11 +30,7 @@ pub fn works_are_effects()
 pub fn steps_stay_good()
     ensures { StepsStayGood }
 {
-    calls_are_effects();
-    calls_keep_sound();
-    cheri_step::effects_leave_others();
-    effects_keep_running();
-    faults_change_nothing();
+    works_are_effects();
     effects_stay_steady();
     next_is_first();
     outcomes_are_exact();
@@ -109,11 +105,7 @@ pub fn machines_stay_machines()
 pub fn runs_are_sound()
     ensures { RunsAreSound }
 {
-    calls_are_effects();
-    calls_keep_sound();
-    cheri_step::effects_leave_others();
-    effects_keep_running();
-    faults_change_nothing();
+    works_are_effects();
     effects_stay_steady();
     next_is_first();
     outcomes_are_exact();
@@ -129,11 +121,7 @@ pub fn runs_are_sound()
 pub fn dispatches_are_next()
     ensures { DispatchesAreNext }
 {
-    calls_are_effects();
-    calls_keep_sound();
-    cheri_step::effects_leave_others();
-    effects_keep_running();
-    faults_change_nothing();
+    works_are_effects();
     effects_stay_steady();
     next_is_first();
     outcomes_are_exact();
@@ -186,11 +174,7 @@ pub fn full_never_lacks()
 pub fn runs_end()
     ensures { RunsEnd }
 {
-    calls_are_effects();
-    calls_keep_sound();
-    cheri_step::effects_leave_others();
-    effects_keep_running();
-    faults_change_nothing();
+    works_are_effects();
     effects_stay_steady();
     next_is_first();
     outcomes_are_exact();

@@ -7,19 +7,7 @@ use Rattle.machine_steps.proofs.laws.runs_are_sound.Goals as goal
 
 pub returns : goal.returns
 returns c =
-    let laws : StepLaws = record {
-      works = record {
-        calls = c.calls_are_effects.ensures;
-        contents = c.calls_keep_sound.ensures;
-        others = c.effects_leave_others.ensures;
-        running = c.effects_keep_running.ensures;
-        faults = c.faults_change_nothing.ensures;
-      };
-      steady = c.effects_stay_steady.ensures;
-      next = c.next_is_first.ensures;
-      outcomes = c.outcomes_are_exact.ensures;
-      cuts = c.cuts_agree.ensures;
-    } in
+    let laws : StepLaws = record { works = c.works_are_effects.ensures; steady = c.effects_stay_steady.ensures; next = c.next_is_first.ensures; outcomes = c.outcomes_are_exact.ensures; cuts = c.cuts_agree.ensures } in
     let machine = start-machine c.images_are_sound.ensures c.pages_are_moved.ensures c.calls_keep_whole.ensures c.starts_are_exact.ensures c.starts_may_run.ensures c.cuts_agree.ensures in
     let sound = start-sound c.images_are_sound.ensures c.pages_are_moved.ensures c.calls_keep_whole.ensures c.starts_are_exact.ensures c.starts_may_run.ensures c.cuts_agree.ensures in
     record {
