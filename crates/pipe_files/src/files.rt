@@ -117,11 +117,12 @@ impl Descriptors {
         requires { slot < length self.old.tables }
         ensures { self.new ≡ with_table self.old slot no_descriptors }
     {
+        let closed = slot as usize;
         put_table(
             &mut self.tables,
             &self.descriptions,
             &mut self.pipes,
-            slot as usize,
+            closed,
             &NO_DESCRIPTORS,
         );
         sweep(&mut self.pipes);

@@ -96,8 +96,8 @@ impl Processes {
         Some(slot)
     }
 
-    // the lowest slot without a process
-    fn lowest_free(&self) -> Option<u32>
+    /// The lowest free slot. None exactly where each slot has a process.
+    pub fn lowest_free(&self) -> Option<u32>
         ensures is { result ≡ lowest_free_slot self.now.processes }
         ensures within { IfSome result (λ slot. slot < length self.now.processes) }
     {

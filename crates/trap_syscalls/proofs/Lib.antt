@@ -1,0 +1,9 @@
+pub mod GoingWorlds
+pub mod WaitedWorlds
+pub mod EndedWorlds
+pub mod CallRows
+pub mod ForkedWorlds
+pub mod TransferLemmas
+pub mod TransferredWorlds
+pub mod Callers
+pub mod Props
