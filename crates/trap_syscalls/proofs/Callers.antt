@@ -32,7 +32,7 @@ use Rattle.machine.proofs.ScansFound.{any-from-place}
 use Rattle.trap_syscalls.specs.declared.call.Call.{Call}
 use Rattle.trap_syscalls.specs.declared.world.World.{World}
 use Rattle.trap_syscalls.specs.Asked.{call_of, MayMove}
-use Rattle.trap_syscalls.specs.Worlds.{IsWorldOf, IsAtCall, SomeCaller}
+use Rattle.trap_syscalls.specs.Worlds.{IsWorldOf, IsLiveAt, IsAtCall, SomeWorld}
 use Rattle.trap_syscalls.specs.Calling.{IsCalling, IsAsked, MayReap, MayFork}
 use Rattle.trap_syscalls.proofs.WaitedWorlds.{IsThere, live-some}
 use Rattle.trap_syscalls.proofs.Props.{IsCalling-prop, MayReap-prop, MayFork-prop}
@@ -68,7 +68,7 @@ underway-fewer p table c InWait underway some = omega (arith, some)
 underway-fewer p table c (Zombie status) underway some = omega (arith, some)
 
 -- A process that is at a call in a sound machine, and the machine's world.
-module _ (m : Machine) (w : World) (slot : ℕ) (p : Process) (is : IsMachine m) (sound : Sound m) (caller : IsAtCall slot m) (of : IsWorldOf m w) (there : process_at w.processes.processes slot ≡ Some p) where
+module _ (m : Machine) (w : World) (slot : ℕ) (p : Process) (is : IsMachine m) (sound : Sound m) (caller : IsLiveAt slot m) (of : IsWorldOf m w) (there : process_at w.processes.processes slot ≡ Some p) where
   -- a process of the world is one of the machine
   in-machine : (k : ℕ) (o : Option Process) → process_at w.processes.processes k ≡ o → process_at m.processes k ≡ o
   in-machine k o at = ap (λ (os : List (Option Process)). process_at os k) of.processes ∙ at
@@ -84,10 +84,6 @@ module _ (m : Machine) (w : World) (slot : ℕ) (p : Process) (is : IsMachine m)
   -- so it is live
   process-live : is_live p.state ≡ true
   process-live = subst (λ (q : Process). is_live q.state ≡ true) same-process caller.live
-
-  -- and the bytes of its call lie in PCC's bounds
-  process-held : IsTrue (holds p.pcc.bits (address_of p.pcc.bits) 4)
-  process-held = subst (λ (q : Process). IsTrue (holds q.pcc.bits (address_of q.pcc.bits) 4)) same-process caller.held
 
   -- its region is one of the machine's
   region-configured : p.region < m.config.regions
@@ -144,19 +140,19 @@ module _ (m : Machine) (w : World) (slot : ℕ) (p : Process) (is : IsMachine m)
       in-list child found = ap (first_ended p.id) of.processes ∙ found
 
   -- what it has can be moved
-  plain-moves : CodeGoesOn → MayMove p
-  plain-moves law = record {
+  plain-moves : CodeGoesOn → IsTrue (holds p.pcc.bits (address_of p.pcc.bits) 4) → MayMove p
+  plain-moves law held = record {
     region = region-low;
     file = (is.processes slot p here).registers;
     registers = within.registers;
-    counter = λ tagged. (next-good law p.pcc p.region region-low (record { pattern = (is.processes slot p here).pcc; code = within.code; inside = within.counter within.code.tagged }) process-held).inside;
+    counter = λ tagged. (next-good law p.pcc p.region region-low (record { pattern = (is.processes slot p here).pcc; code = within.code; inside = within.counter within.code.tagged }) held).inside;
   }
 
   -- it can be moved to a free slot
-  plain-fork : CodeGoesOn → w.forks < 2 ^ 62 → MayFork w (call_of slot p)
-  plain-fork law few = record {
+  plain-fork : CodeGoesOn → IsTrue (holds p.pcc.bits (address_of p.pcc.bits) 4) → w.forks < 2 ^ 62 → MayFork w (call_of slot p)
+  plain-fork law held few = record {
     forks = few;
-    moves = λ q at. let one : Some p ≡ Some q = sym there ∙ at in let same : p ≡ q = cc in subst MayMove same (plain-moves law);
+    moves = λ q at. let one : Some p ≡ Some q = sym there ∙ at in let same : p ≡ q = cc in subst MayMove same (plain-moves law held);
     free = λ k none below.
         let configured : k < m.config.slots = let a = is.configured.processes in let b = ap length of.processes in omega arith in
         ap (λ (tables : List Table). table_at tables k) (sym of.tables) ∙ is.tables.none k configured (ap lives (in-machine k None none));
@@ -182,17 +178,34 @@ free-store m w to is of below free = by (m.content.stores to) refl
     by None e = refl
     by (Some store) e = absurd (never (is.stores.live to (ap is_some e)))
 
--- Some sound machine has the world, and the process of the slot is at a call in it.
-module _ {S : Type 0} (stands_for : S → Content → Type 0) (w : World) (s : S) (slot : ℕ) (some : ∥ SomeCaller stands_for w s slot ∥₁) where
-  -- the process is live
+-- a world of a machine with a property is one of a machine with a weaker one
+pub weaker : {S : Type 0} (stands_for : S → Content → Type 0) (w : World) (s : S) (P Q : Machine → Type 0) → ((m : Machine) → P m → Q m) → ∥ SomeWorld stands_for w s P ∥₁ → ∥ SomeWorld stands_for w s Q ∥₁
+weaker stands_for w s P Q gives some = ∥∥₁_map some (λ (k : SomeWorld stands_for w s P). record {
+  machine = k.machine;
+  is = k.is;
+  sound = k.sound;
+  has = gives k.machine k.has;
+  world = k.world;
+  content = k.content;
+  stores = k.stores;
+  stands = k.stands;
+})
+
+-- a process that is at a call is live
+pub live-caller : {S : Type 0} (stands_for : S → Content → Type 0) (w : World) (s : S) (slot : ℕ) → ∥ SomeWorld stands_for w s (IsAtCall slot) ∥₁ → ∥ SomeWorld stands_for w s (IsLiveAt slot) ∥₁
+live-caller stands_for w s slot some = weaker stands_for w s (IsAtCall slot) (IsLiveAt slot) (λ m at. at.at) some
+
+-- Some sound machine has the world, and the process of the slot is live in it.
+module _ {S : Type 0} (stands_for : S → Content → Type 0) (w : World) (s : S) (slot : ℕ) (some : ∥ SomeWorld stands_for w s (IsLiveAt slot) ∥₁) where
+  -- so it is in the world
   pub caller-live : lives (process_at w.processes.processes slot) ≡ true
-  caller-live = ∥∥₁_elim some (hlevel Bool-set) (λ (k : SomeCaller stands_for w s slot).
-      ap lives (sym (ap (λ (os : List (Option Process)). process_at os slot) k.world.processes) ∙ k.call.there) ∙ k.call.live)
+  caller-live = ∥∥₁_elim some (hlevel Bool-set) (λ (k : SomeWorld stands_for w s (IsLiveAt slot)).
+      ap lives (sym (ap (λ (os : List (Option Process)). process_at os slot) k.world.processes) ∙ k.has.there) ∙ k.has.live)
 
   -- a region that isn't taken has no store
   pub caller-free : (to : ℕ) → to < length w.plan → is_taken w.plan to ≡ false → ∥ StandsFor stands_for s (HasNoStore to) ∥₁
-  caller-free to below free = ∥∥₁_map some (λ (k : SomeCaller stands_for w s slot).
-      record { content = k.machine.content; stands = k.stands; holds = free-store k.machine w to k.is k.world below free })
+  caller-free to below free = ∥∥₁_map some (λ (k : SomeWorld stands_for w s (IsLiveAt slot)).
+      record { content = k.content; stands = k.stands; holds = k.stores to ∙ free-store k.machine w to k.is k.world below free })
 
   -- A call that is what the process of the slot asks for.
   module _ (call : Call) (asks : (p : Process) → process_at w.processes.processes slot ≡ Some p → call ≡ call_of slot p) where
@@ -206,8 +219,8 @@ module _ {S : Type 0} (stands_for : S → Content → Type 0) (w : World) (s : S
 
     -- the call is one of a live process, whose bytes and numbers are in range
     pub caller-calling : w.forks < 2 ^ 62 → IsCalling w call
-    caller-calling few = of-call (IsCalling w) (∥∥₁_elim some (IsCalling-prop w (call_of slot caller-process.process)) (λ (k : SomeCaller stands_for w s slot).
-        plain-calling k.machine w slot caller-process.process k.is k.sound k.call k.world caller-process.is few))
+    caller-calling few = of-call (IsCalling w) (∥∥₁_elim some (IsCalling-prop w (call_of slot caller-process.process)) (λ (k : SomeWorld stands_for w s (IsLiveAt slot)).
+        plain-calling k.machine w slot caller-process.process k.is k.sound k.has k.world caller-process.is few))
 
     -- it is what the process of its own slot asks for
     pub caller-asked : IsAsked w call
@@ -218,15 +231,18 @@ module _ {S : Type 0} (stands_for : S → Content → Type 0) (w : World) (s : S
 
     -- the child that is waited for is a Zombie alone
     pub caller-reap : ChildrenAreFound → w.forks < 2 ^ 62 → MayReap w call
-    caller-reap law few = of-call (MayReap w) (∥∥₁_elim some (MayReap-prop w (call_of slot caller-process.process)) (λ (k : SomeCaller stands_for w s slot).
-        plain-reap k.machine w slot caller-process.process k.is k.sound k.call k.world caller-process.is law few))
+    caller-reap law few = of-call (MayReap w) (∥∥₁_elim some (MayReap-prop w (call_of slot caller-process.process)) (λ (k : SomeWorld stands_for w s (IsLiveAt slot)).
+        plain-reap k.machine w slot caller-process.process k.is k.sound k.has k.world caller-process.is law few))
 
-    -- the process can be moved to a free slot
-    pub caller-fork : CodeGoesOn → w.forks < 2 ^ 62 → MayFork w call
-    caller-fork law few = of-call (MayFork w) (∥∥₁_elim some (MayFork-prop w (call_of slot caller-process.process)) (λ (k : SomeCaller stands_for w s slot).
-        plain-fork k.machine w slot caller-process.process k.is k.sound k.call k.world caller-process.is law few))
+    -- a process that is at its call can be moved to a free slot
+    pub caller-fork : ∥ SomeWorld stands_for w s (IsAtCall slot) ∥₁ → CodeGoesOn → w.forks < 2 ^ 62 → MayFork w call
+    caller-fork at law few = of-call (MayFork w) (∥∥₁_elim at (MayFork-prop w (call_of slot caller-process.process)) (λ (k : SomeWorld stands_for w s (IsAtCall slot)).
+        let same = same-process k.machine w slot caller-process.process k.is k.sound k.has.at k.world caller-process.is in
+        let held : IsTrue (holds caller-process.process.pcc.bits (address_of caller-process.process.pcc.bits) 4) =
+        subst (λ (q : Process). IsTrue (holds q.pcc.bits (address_of q.pcc.bits) 4)) same k.has.held in
+        plain-fork k.machine w slot caller-process.process k.is k.sound k.has.at k.world caller-process.is law held few))
 
     -- its region has a store
     pub caller-store : ∥ StandsFor stands_for s (HasStore call.region) ∥₁
-    caller-store = of-call (λ (asked : Call). ∥ StandsFor stands_for s (HasStore asked.region) ∥₁) (∥∥₁_map some (λ (k : SomeCaller stands_for w s slot).
-        record { content = k.machine.content; stands = k.stands; holds = plain-store k.machine w slot caller-process.process k.is k.sound k.call k.world caller-process.is }))
+    caller-store = of-call (λ (asked : Call). ∥ StandsFor stands_for s (HasStore asked.region) ∥₁) (∥∥₁_map some (λ (k : SomeWorld stands_for w s (IsLiveAt slot)).
+        record { content = k.content; stands = k.stands; holds = ap is_some (k.stores caller-process.process.region) ∙ plain-store k.machine w slot caller-process.process k.is k.sound k.has k.world caller-process.is }))

@@ -158,3 +158,18 @@ world-ended m w call p c notes status lacks calling asked of there = record {
 
     alone : (k : ℕ) → k ≢ call.slot → lives_in p.region (process_at m.processes k) ≡ false
     alone k other = rw (of.processes, ← home) (calling.alone k other)
+
+-- the machine after an end doesn't depend on what is told of its touches
+pub other-touches : (m : Machine) (slot : ℕ) (p : Process) (c : Content) (notes more : List Note) (status : ℕ) (lacks : Bool) (w : World)
+    → IsWorldOf (applied m slot p (ends (view_of m slot p) c notes status lacks)) w → IsWorldOf (applied m slot p (ends (view_of m slot p) c more status lacks)) w
+unfolding applied ends
+other-touches m slot p c notes more status lacks w is = record {
+  processes = is.processes;
+  tables = is.tables;
+  pipes = is.pipes;
+  input = is.input;
+  forks = is.forks;
+  plan = is.plan;
+  taken = is.taken;
+  buffer = is.buffer;
+}

@@ -6,6 +6,7 @@ use Rattle.cap_format.specs.Rights.{holds}
 use Rattle.region_plan.specs.Plan.{is_taken}
 use Rattle.contents.specs.Numbers.{most_transfer}
 use Rattle.contents.specs.Content.{Content}
+use Rattle.contents.specs.Agreeing.{HaveSameStores}
 use Rattle.contents.specs.Transfers.{two_notes}
 use Rattle.machine.specs.declared.process.Process.{Process}
 use Rattle.machine.specs.Processes.{process_at, is_live, lives_in}
@@ -33,21 +34,28 @@ pub record IsWorldOf (m : Machine) (w : World) : Type 0 where
   pub taken : w.taken ≤ length w.input.items
   pub buffer : length w.buffer.items ≡ most_transfer
 
--- the process of the slot is at a call: it is live, and the four bytes at PCC's address lie in its bounds
-pub record IsAtCall (slot : ℕ) (m : Machine) : Type 0 where
+-- the process of the slot is live
+pub record IsLiveAt (slot : ℕ) (m : Machine) : Type 0 where
   pub process : Process
   pub there : process_at m.processes slot ≡ Some process
   pub live : is_live process.state ≡ true
-  pub held : IsTrue (holds process.pcc.bits (address_of process.pcc.bits) 4)
 
--- some sound machine, in which the process of the slot is at a call, has this world, and the space stands for its content
-pub record SomeCaller {S : Type 0} (stands_for : S → Content → Type 0) (w : World) (s : S) (slot : ℕ) : Type 0 where
+-- and at a call: the four bytes at PCC's address lie in its bounds
+pub record IsAtCall (slot : ℕ) (m : Machine) : Type 0 where
+  pub at : IsLiveAt slot m
+  pub held : IsTrue (holds at.process.pcc.bits (address_of at.process.pcc.bits) 4)
+
+-- Some sound machine with a property has this world, and the space stands for a content with its stores. The account may be the one that is left
+-- by a touch of the fetch.
+pub record SomeWorld {S : Type 0} (stands_for : S → Content → Type 0) (w : World) (s : S) (P : Machine → Type 0) : Type 0 where
   pub machine : Machine
   pub is : IsMachine machine
   pub sound : Sound machine
-  pub call : IsAtCall slot machine
+  pub has : P machine
   pub world : IsWorldOf machine w
-  pub stands : stands_for s machine.content
+  pub content : Content
+  pub stores : HaveSameStores machine.content content
+  pub stands : stands_for s content
 
 -- The effect of a call came about: the world is that of the machine to which it was applied, and what the call came to is said of it.
 pub record HasCalled (m : Machine) (slot : ℕ) (p : Process) (e : Effect) (result : CallDone) (w : World) : Type 0 where

@@ -1,5 +1,5 @@
 // Ends of processes.
-ghost use Rattle.std.specs.Prelude.{◌≡◌, ◌+◌, ◌%◌, ℕ, Bool, false, true, List, [], Some};
+ghost use Rattle.std.specs.Prelude.{◌≡◌, ◌+◌, ◌<◌, ◌^◌, Bool, List, Some};
 ghost use Rattle.machine_types.specs.Causes.{cause_number};
 ghost use Rattle.machine_types.specs.declared.touches.Note.{Note};
 ghost use Rattle.contents.specs.Content.{Content};
@@ -10,11 +10,13 @@ ghost use Rattle.stores.specs.Known.{StandsFor};
 ghost use Rattle.machine.specs.declared.process.Process.{Process};
 ghost use Rattle.machine.specs.Processes.{process_at};
 ghost use Rattle.machine.specs.Machines.{Machine, view_of};
-ghost use Rattle.machine.specs.Effects.{ends};
-ghost use Rattle.trap_syscalls.specs.Worlds.{IsWorldOf, HasCalled};
+ghost use Rattle.machine.specs.Effects.{ends, killed};
+ghost use Rattle.machine.specs.Applying.{applied};
+ghost use Rattle.trap_syscalls.specs.Worlds.{IsWorldOf, IsLiveAt, HasCalled, SomeWorld};
 ghost use Rattle.trap_syscalls.specs.Calling.{IsCalling, IsAsked};
 
-use crate::call::Call;
+use crate::answers::UNTOUCHED;
+use crate::call::{Call, call_at};
 use crate::world::{CallDone, World};
 use machine::WorkEnd;
 use machine_types::{Cause, Note};
@@ -45,6 +47,22 @@ pub(crate) fn end<S: Stores>(
         touches,
         printed: 0,
     }
+}
+
+/// Kills the process of a slot: it ends with a status of 256 plus the number of the cause, which is the answer. Some sound machine has this world,
+/// and the space stands for a content with its stores; in the machine the process is live. Fewer than 2^62 forks were made. It takes no memory.
+pub fn kill_process<S: Stores>(world: &mut World, slot: u32, cause: Cause, space: &mut S) -> u32
+    requires forks { world.old.forks < 2 ^ 62 }
+    requires live { ∥ SomeWorld S.stands_for world.old space.old (IsLiveAt slot) ∥₁ }
+    ensures status { result ≡ 256 + cause_number cause }
+    ensures world { (m : Machine) (p : Process) (c : Content) (notes : List Note) (lacks : Bool) → IsWorldOf m world.old → process_at m.processes slot ≡ Some p
+        → IsWorldOf (applied m slot p (killed (view_of m slot p) c notes cause lacks)) world.new }
+    ensures content { (m : Machine) (p : Process) (c : Content) → IsWorldOf m world.old → process_at m.processes slot ≡ Some p → S.stands_for space.old c → S.stands_for space.new (end_of c p.region) }
+{
+    let call = call_at(&world.processes, slot);
+    let status = killed_by(cause);
+    end(world, &call, space, status, [UNTOUCHED; 2]);
+    status
 }
 
 // a process is killed: its status is 256 plus the number of the cause

@@ -10,6 +10,7 @@ mod transfers;
 mod waits;
 mod world;
 
+pub use ends::kill_process;
 pub use machine::WorkEnd;
 pub use syscalls::do_call;
 pub use world::{CallDone, World};

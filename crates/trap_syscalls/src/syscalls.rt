@@ -8,7 +8,7 @@ ghost use Rattle.machine.specs.declared.process.Process.{Process};
 ghost use Rattle.machine.specs.Processes.{process_at};
 ghost use Rattle.machine.specs.Machines.{Machine, view_of};
 ghost use Rattle.machine.specs.Calls.{called};
-ghost use Rattle.trap_syscalls.specs.Worlds.{IsWorldOf, HasCalled, SomeCaller};
+ghost use Rattle.trap_syscalls.specs.Worlds.{IsWorldOf, IsAtCall, HasCalled, SomeWorld};
 ghost use Rattle.trap_syscalls.specs.Calling.{IsCalling, IsAsked, MayReap, MayFork};
 
 use crate::answers::{UNTOUCHED, answer, refuse};
@@ -40,18 +40,19 @@ const WRITE: u64 = 8;
 
 const YIELD: u64 = 12;
 
-/// Does the call of the process of a slot, or goes on with it. Some sound machine has this world, and the space stands for its stores; there the
-/// process is live and at a call, which means that the four bytes at PCC's address lie in its bounds. Fewer than 2^62 forks were made.
+/// Does the call of the process of a slot, or goes on with it. Some sound machine has this world, and the space stands for a content with its
+/// stores, as the fetch of the call left it. In the machine the process is live and at a call, which means that the four bytes at PCC's address lie
+/// in its bounds. Fewer than 2^62 forks were made.
 ///
-/// For each such machine the world afterwards is that of the machine to which the call's effect is applied, and the space stands for its stores.
-/// A refused call changes nothing but x10, PCC and the state of its process. It takes no memory.
+/// For each such machine and content the world afterwards is that of the machine to which the call's effect is applied, and the space stands for
+/// the effect's content. A refused call changes nothing but x10, PCC and the state of its process. It takes no memory.
 pub fn do_call<S: Stores>(world: &mut World, slot: u32, space: &mut S) -> CallDone
     requires forks { world.old.forks < 2 ^ 62 }
-    requires caller { ∥ SomeCaller S.stands_for world.old space.old slot ∥₁ }
-    ensures called { (m : Machine) (p : Process) → IsWorldOf m world.old → S.stands_for space.old m.content → process_at m.processes slot ≡ Some p
-        → HasCalled m slot p (called (view_of m slot p) m.content) result world.new }
-    ensures content { (m : Machine) (p : Process) → IsWorldOf m world.old → S.stands_for space.old m.content → process_at m.processes slot ≡ Some p
-        → S.stands_for space.new (called (view_of m slot p) m.content).content }
+    requires caller { ∥ SomeWorld S.stands_for world.old space.old (IsAtCall slot) ∥₁ }
+    ensures called { (m : Machine) (p : Process) (c : Content) → IsWorldOf m world.old → process_at m.processes slot ≡ Some p → S.stands_for space.old c
+        → HasCalled m slot p (called (view_of m slot p) c) result world.new }
+    ensures content { (m : Machine) (p : Process) (c : Content) → IsWorldOf m world.old → process_at m.processes slot ≡ Some p → S.stands_for space.old c
+        → S.stands_for space.new (called (view_of m slot p) c).content }
 {
     code_goes_on();
     children_are_found();
