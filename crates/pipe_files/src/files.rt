@@ -1,11 +1,12 @@
 // All descriptors and pipes.
-ghost use Rattle.std.specs.Prelude.{◌≡◌, ◌<◌, ◌≤◌, length, IfOk};
-ghost use Rattle.machine.specs.Pipes.{target, table_at, console_table, no_descriptors, inherited};
+ghost use Rattle.std.specs.Prelude.{◌≡◌, ◌-◌, ◌<◌, ◌≤◌, [], length, slice_index_or, IfOk};
+ghost use Rattle.machine.specs.Numbers.{pipe_bytes};
+ghost use Rattle.machine.specs.Pipes.{target, table_at, console_table, no_descriptors, inherited, readers_of, writers_of};
 ghost use Rattle.pipe_files.specs.Files.{no_files, with_table};
 
 use crate::pipes::{Pipe, make_pipes, sweep};
 use crate::tables::{Descriptor, NO_DESCRIPTORS, Table, free_tables, put_table};
-use machine::{PIPES, Target};
+use machine::{PIPE_BYTES, PIPES, Target};
 use machine_types::{MOST_SLOTS, NoMemory};
 use slab::Slab;
 use std::alloc::Global;
@@ -70,6 +71,38 @@ impl Descriptors {
         let table = self.tables.get(slot as usize)?;
         let entry = table.get(fd as usize)?;
         self.descriptions.get((*entry)?.description).copied()
+    }
+
+    /// The number of bytes that a pipe, below [`PIPES`], holds.
+    pub fn stored(&self, pipe: u32) -> usize
+        requires { pipe < PIPES }
+        ensures { result ≡ length (slice_index_or self.now.pipes pipe []) }
+    {
+        self.pipes[pipe as usize].bytes.len()
+    }
+
+    /// The free room of a pipe, below [`PIPES`], in bytes.
+    pub fn room(&self, pipe: u32) -> usize
+        requires { pipe < PIPES }
+        ensures { result ≡ pipe_bytes - length (slice_index_or self.now.pipes pipe []) }
+    {
+        PIPE_BYTES - self.pipes[pipe as usize].bytes.len()
+    }
+
+    /// How many descriptors of all slots name the end of a pipe for reading.
+    pub fn readers(&self, pipe: u32) -> u32
+        requires { pipe < PIPES }
+        ensures { result ≡ readers_of self.now.tables pipe }
+    {
+        self.pipes[pipe as usize].readers
+    }
+
+    /// How many descriptors of all slots name the end of a pipe for writing.
+    pub fn writers(&self, pipe: u32) -> u32
+        requires { pipe < PIPES }
+        ensures { result ≡ writers_of self.now.tables pipe }
+    {
+        self.pipes[pipe as usize].writers
     }
 
     /// The descriptors of a slot are the console's: 0 its input, 1 its output, and the others not in use. Those that it had are closed.

@@ -6,6 +6,14 @@ use std::test::Fail;
 fn a_console_is_shared_with_a_child_until_it_ends(rt: HostRuntime) -> Result<(), Fail> {
     let mut files = Descriptors::new(rt.alloc(), 3)?;
     assert_eq!(rt; files.look(0, 0), None);
+    assert_eq!(rt; files.stored(0), 0);
+    assert_eq!(rt; files.room(0), 4096);
+    assert_eq!(rt; files.readers(0), 0);
+    assert_eq!(rt; files.writers(0), 0);
+    assert_eq!(rt; files.stored(15), 0);
+    assert_eq!(rt; files.room(15), 4096);
+    assert_eq!(rt; files.readers(15), 0);
+    assert_eq!(rt; files.writers(15), 0);
     files.console(0);
     assert_eq!(rt; files.look(0, 0), Some(Target::ConsoleIn));
     assert_eq!(rt; files.look(0, 1), Some(Target::ConsoleOut));
