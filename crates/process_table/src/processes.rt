@@ -175,8 +175,8 @@ impl Processes {
         Some(child)
     }
 
-    // the Zombie child of lowest id
-    fn first_ended(&self, parent: u64) -> Option<(u64, u32)>
+    /// Id and status of the Zombie child of lowest id of the process with this id. None exactly where there is none.
+    pub fn first_ended(&self, parent: u64) -> Option<(u64, u32)>
         ensures { result ≡ told (first_ended parent self.now.processes) }
     {
         let count = self.slots.len();

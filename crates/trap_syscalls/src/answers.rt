@@ -33,6 +33,7 @@ pub(crate) fn answer(world: &mut World, call: &Call, value: u64, touches: [Note;
     ensures called { (m : Machine) (p : Process) (c : Content) (notes : List Note) → IsWorldOf m world.old → process_at m.processes call.now.slot ≡ Some p → touches ≡ two_notes notes
         → HasCalled m call.now.slot p (answers (view_of m call.now.slot p) c notes (Gives value)) result world.new }
     ensures buffer { world.new.buffer ≡ world.old.buffer }
+    ensures marks { world.new.processes.marks ≡ world.old.processes.marks }
 {
     set_answer(&mut world.processes, call.slot, value);
     CallDone {
@@ -49,8 +50,9 @@ pub(crate) fn answer(world: &mut World, call: &Call, value: u64, touches: [Note;
 pub(crate) fn refuse(world: &mut World, call: &Call, error: Errno) -> CallDone
     requires calling { IsCalling world.old call.now }
     requires asked { IsAsked world.old call.now }
-    ensures { (m : Machine) (p : Process) (c : Content) → IsWorldOf m world.old → process_at m.processes call.now.slot ≡ Some p
+    ensures called { (m : Machine) (p : Process) (c : Content) → IsWorldOf m world.old → process_at m.processes call.now.slot ≡ Some p
         → HasCalled m call.now.slot p (refuses (view_of m call.now.slot p) c error) result world.new }
+    ensures marks { world.new.processes.marks ≡ world.old.processes.marks }
 {
     set_answer(&mut world.processes, call.slot, refusal_bits(error));
     CallDone {
@@ -85,6 +87,7 @@ pub(crate) fn wait_in(world: &mut World, call: &Call, state: State, touches: [No
     ensures called { (m : Machine) (p : Process) (c : Content) (notes : List Note) → IsWorldOf m world.old → process_at m.processes call.now.slot ≡ Some p → touches ≡ two_notes notes
         → HasCalled m call.now.slot p (waits (view_of m call.now.slot p) c notes state) result world.new }
     ensures buffer { world.new.buffer ≡ world.old.buffer }
+    ensures marks { world.new.processes.marks ≡ world.old.processes.marks }
 {
     set_state(&mut world.processes, call.slot, state);
     CallDone {
@@ -99,7 +102,8 @@ pub(crate) fn wait_in(world: &mut World, call: &Call, state: State, touches: [No
 // the process of a slot, which has one, has a number in x10 and is past its call
 pub(crate) fn set_answer(processes: &mut Processes, slot: u32, value: u64)
     requires { lives (process_at processes.old.processes slot) ≡ true }
-    ensures { (p : Process) → process_at processes.old.processes slot ≡ Some p → processes.new ≡ with_slot processes.old slot (Some (with_answer p value)) }
+    ensures is { (p : Process) → process_at processes.old.processes slot ≡ Some p → processes.new ≡ with_slot processes.old slot (Some (with_answer p value)) }
+    ensures marks { processes.new.marks ≡ processes.old.marks }
 {
     if let Some(p) = processes.get_mut(slot) {
         answer_in(p, value);
@@ -125,7 +129,8 @@ pub(crate) fn past_call(pcc: Cap) -> Cap
 // the process of a slot, which has one, is in this state
 fn set_state(processes: &mut Processes, slot: u32, state: State)
     requires { lives (process_at processes.old.processes slot) ≡ true }
-    ensures { (p : Process) → process_at processes.old.processes slot ≡ Some p → processes.new ≡ with_slot processes.old slot (Some (with_state p state)) }
+    ensures is { (p : Process) → process_at processes.old.processes slot ≡ Some p → processes.new ≡ with_slot processes.old slot (Some (with_state p state)) }
+    ensures marks { processes.new.marks ≡ processes.old.marks }
 {
     if let Some(p) = processes.get_mut(slot) {
         p.state = state;

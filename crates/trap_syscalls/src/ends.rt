@@ -37,6 +37,7 @@ pub(crate) fn end<S: Stores>(
     ensures called { (m : Machine) (p : Process) (c : Content) (notes : List Note) (lacks : Bool) → IsWorldOf m world.old → process_at m.processes call.now.slot ≡ Some p → touches ≡ two_notes notes
         → HasCalled m call.now.slot p (ends (view_of m call.now.slot p) c notes status lacks) result world.new }
     ensures content { (c : Content) → S.stands_for space.old c → S.stands_for space.new (end_of c call.now.region) }
+    ensures marks { world.new.processes.marks ≡ world.old.processes.marks }
 {
     space.end(call.region);
     world.plan.free(call.region);
@@ -58,6 +59,7 @@ pub fn kill_process<S: Stores>(world: &mut World, slot: u32, cause: Cause, space
     ensures world { (m : Machine) (p : Process) (c : Content) (notes : List Note) (lacks : Bool) → IsWorldOf m world.old → process_at m.processes slot ≡ Some p
         → IsWorldOf (applied m slot p (killed (view_of m slot p) c notes cause lacks)) world.new }
     ensures content { (m : Machine) (p : Process) (c : Content) → IsWorldOf m world.old → process_at m.processes slot ≡ Some p → S.stands_for space.old c → S.stands_for space.new (end_of c p.region) }
+    ensures marks { world.new.processes.marks ≡ world.old.processes.marks }
 {
     let call = call_at(&world.processes, slot);
     let status = killed_by(cause);

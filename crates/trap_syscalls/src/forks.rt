@@ -37,6 +37,7 @@ pub(crate) fn fork<S: Stores>(world: &mut World, call: &Call, space: &mut S) -> 
         → HasCalled m call.now.slot p (row_fork (view_of m call.now.slot p) c) result world.new }
     ensures content { (m : Machine) (p : Process) (c : Content) → IsWorldOf m world.old → process_at m.processes call.now.slot ≡ Some p → S.stands_for space.old c
         → S.stands_for space.new (row_fork (view_of m call.now.slot p) c).content }
+    ensures marks { world.new.processes.marks ≡ world.old.processes.marks }
 {
     places_are_lowest();
     let Some(slot) = world.processes.lowest_free() else {
@@ -60,8 +61,9 @@ fn add_child(world: &mut World, call: &Call, slot: u32, region: u32) -> CallDone
     requires none { process_at world.old.processes.processes slot ≡ None }
     requires region { region < length world.old.plan }
     requires free { is_taken world.old.plan region ≡ false }
-    ensures { (m : Machine) (p : Process) (c : Content) → IsWorldOf m world.old → process_at m.processes call.now.slot ≡ Some p
+    ensures called { (m : Machine) (p : Process) (c : Content) → IsWorldOf m world.old → process_at m.processes call.now.slot ≡ Some p
         → HasCalled m call.now.slot p (forked (view_of m call.now.slot p) slot region c (Ok tt)) result world.new }
+    ensures marks { world.new.processes.marks ≡ world.old.processes.marks }
 {
     let id = world.forks + 2;
     let child = child_at(&world.processes, call.slot, id, region);

@@ -53,6 +53,7 @@ pub fn do_call<S: Stores>(world: &mut World, slot: u32, space: &mut S) -> CallDo
         → HasCalled m slot p (called (view_of m slot p) c) result world.new }
     ensures content { (m : Machine) (p : Process) (c : Content) → IsWorldOf m world.old → process_at m.processes slot ≡ Some p → S.stands_for space.old c
         → S.stands_for space.new (called (view_of m slot p) c).content }
+    ensures marks { world.new.processes.marks ≡ world.old.processes.marks }
 {
     code_goes_on();
     children_are_found();
@@ -72,6 +73,7 @@ fn serve<S: Stores>(world: &mut World, call: &Call, space: &mut S) -> CallDone
         → HasCalled m call.now.slot p (called (view_of m call.now.slot p) c) result world.new }
     ensures content { (m : Machine) (p : Process) (c : Content) → IsWorldOf m world.old → process_at m.processes call.now.slot ≡ Some p → S.stands_for space.old c
         → S.stands_for space.new (called (view_of m call.now.slot p) c).content }
+    ensures marks { world.new.processes.marks ≡ world.old.processes.marks }
 {
     let number = call.number;
     if number == EXIT {

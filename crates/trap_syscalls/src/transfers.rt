@@ -40,6 +40,7 @@ pub(crate) fn read<S: Stores>(world: &mut World, call: &Call, space: &mut S) -> 
         → HasCalled m call.now.slot p (row_read (view_of m call.now.slot p) c) result world.new }
     ensures content { (m : Machine) (p : Process) (c : Content) → IsWorldOf m world.old → process_at m.processes call.now.slot ≡ Some p → S.stands_for space.old c
         → S.stands_for space.new (row_read (view_of m call.now.slot p) c).content }
+    ensures marks { world.new.processes.marks ≡ world.old.processes.marks }
 {
     if world.files.look(call.slot, call.first) != Some(Target::ConsoleIn) {
         return refuse(world, call, Errno::Ebadf);
@@ -62,6 +63,7 @@ pub(crate) fn write<S: Stores>(world: &mut World, call: &Call, space: &mut S) ->
         → HasCalled m call.now.slot p (row_write (view_of m call.now.slot p) c) result world.new }
     ensures content { (m : Machine) (p : Process) (c : Content) → IsWorldOf m world.old → process_at m.processes call.now.slot ≡ Some p → S.stands_for space.old c
         → S.stands_for space.new (row_write (view_of m call.now.slot p) c).content }
+    ensures marks { world.new.processes.marks ≡ world.old.processes.marks }
 {
     if world.files.look(call.slot, call.first) != Some(Target::ConsoleOut) {
         return refuse(world, call, Errno::Ebadf);
@@ -118,6 +120,7 @@ fn read_console<S: Stores>(world: &mut World, call: &Call, space: &mut S) -> Cal
         → HasCalled m call.now.slot p (console_read (view_of m call.now.slot p) c) result world.new }
     ensures content { (m : Machine) (p : Process) (c : Content) → IsWorldOf m world.old → process_at m.processes call.now.slot ≡ Some p → S.stands_for space.old c
         → S.stands_for space.new (console_read (view_of m call.now.slot p) c).content }
+    ensures marks { world.new.processes.marks ≡ world.old.processes.marks }
 {
     let left = world.input.len() - world.taken;
     if left == 0 {
@@ -151,6 +154,7 @@ fn write_console<S: Stores>(world: &mut World, call: &Call, space: &mut S) -> Ca
         → HasCalled m call.now.slot p (console_write (view_of m call.now.slot p) c (done_of p.state)) result world.new }
     ensures content { (m : Machine) (p : Process) (c : Content) → IsWorldOf m world.old → process_at m.processes call.now.slot ≡ Some p → S.stands_for space.old c
         → S.stands_for space.new (console_write (view_of m call.now.slot p) c (done_of p.state)).content }
+    ensures marks { world.new.processes.marks ≡ world.old.processes.marks }
 {
     let done = done_of(call.state);
     let size = (call.count - done).min(MOST_TRANSFER as u64) as usize;
@@ -188,6 +192,7 @@ fn sent(world: &mut World, call: &Call, done: u64, touches: [Note; 2]) -> CallDo
     ensures called { (m : Machine) (p : Process) (c : Content) (notes : List Note) → IsWorldOf m world.old → process_at m.processes call.now.slot ≡ Some p → touches ≡ two_notes notes
         → HasCalled m call.now.slot p (sent (view_of m call.now.slot p) c notes [] done) result world.new }
     ensures buffer { world.new.buffer ≡ world.old.buffer }
+    ensures marks { world.new.processes.marks ≡ world.old.processes.marks }
 {
     if done == call.count {
         answer(world, call, done, touches)
@@ -214,6 +219,7 @@ fn kill<S: Stores>(world: &mut World, call: &Call, space: &mut S, lack: NoFrame)
     ensures called { (m : Machine) (p : Process) (c : Content) → IsWorldOf m world.old → process_at m.processes call.now.slot ≡ Some p
         → HasCalled m call.now.slot p (killed (view_of m call.now.slot p) c (lack.before ∷ []) cause.NoFrame true) result world.new }
     ensures content { (c : Content) → S.stands_for space.old c → S.stands_for space.new (end_of c call.now.region) }
+    ensures marks { world.new.processes.marks ≡ world.old.processes.marks }
 {
     end(
         world,

@@ -23,8 +23,9 @@ pub(crate) fn wait(world: &mut World, call: &Call) -> CallDone
     requires calling { IsCalling world.old call.now }
     requires asked { IsAsked world.old call.now }
     requires reap { MayReap world.old call.now }
-    ensures { (m : Machine) (p : Process) (c : Content) → IsWorldOf m world.old → process_at m.processes call.now.slot ≡ Some p
+    ensures called { (m : Machine) (p : Process) (c : Content) → IsWorldOf m world.old → process_at m.processes call.now.slot ≡ Some p
         → HasCalled m call.now.slot p (row_wait (view_of m call.now.slot p) c) result world.new }
+    ensures marks { world.new.processes.marks ≡ world.old.processes.marks }
 {
     children_are_found();
     if let Some((child, status)) = world.processes.reap(call.id) {
@@ -48,7 +49,8 @@ pub(crate) fn wait(world: &mut World, call: &Call) -> CallDone
 // The process of a slot, which has one, has the id of a child in x10 and its status in x11, and is past its call.
 fn set_reaped(processes: &mut Processes, slot: u32, child: u64, status: u32)
     requires { lives (process_at processes.old.processes slot) ≡ true }
-    ensures { (p : Process) → process_at processes.old.processes slot ≡ Some p → processes.new ≡ with_slot processes.old slot (Some (with_second (with_answer p child) status)) }
+    ensures is { (p : Process) → process_at processes.old.processes slot ≡ Some p → processes.new ≡ with_slot processes.old slot (Some (with_second (with_answer p child) status)) }
+    ensures marks { processes.new.marks ≡ processes.old.marks }
 {
     if let Some(p) = processes.get_mut(slot) {
         answer_in(p, child);

@@ -13,7 +13,7 @@ returns-clause-called c m p content notes is there touches =
     let here = caller-there m c.args.world.now c.args.call.now.slot p is there in
     let live = caller-lives m c.args.world.now c.args.call.now p is c.requires.calling there in
     record {
-      world = going m c.args.world.now c.args.call.now.slot p (with_answer p c.args.value) content notes _ c.set_answer.new.processes is there (lives-same p (with_answer p c.args.value) live refl refl) (c.set_answer.ensures p here);
+      world = going m c.args.world.now c.args.call.now.slot p (with_answer p c.args.value) content notes _ c.set_answer.new.processes is there (lives-same p (with_answer p c.args.value) live refl refl) (c.set_answer.ensures.is p here);
       end = same-answer c.args.call.now.number (integer p number_register) _ (pos c.args.value) (ap (λ (call : Call). call.number) (c.requires.asked p here)) (to_z_pos w64 c.args.value c.requires.small);
       touches = touches;
       printed = refl;

@@ -10,7 +10,7 @@ returns-clause-called c m p content notes is there touches =
     let here = caller-there m c.args.world.now c.args.call.now.slot p is there in
     let live = caller-lives m c.args.world.now c.args.call.now p is c.requires.calling there in
     record {
-      world = going m c.args.world.now c.args.call.now.slot p (with_state p c.args.state) content notes _ c.set_state.new.processes is there (lives-same p (with_state p c.args.state) live c.requires.live refl) (c.set_state.ensures p here);
+      world = going m c.args.world.now c.args.call.now.slot p (with_state p c.args.state) content notes _ c.set_state.new.processes is there (lives-same p (with_state p c.args.state) live c.requires.live refl) (c.set_state.ensures.is p here);
       end = ap Waiting (ap (λ (call : Call). call.number) (c.requires.asked p here));
       touches = touches;
       printed = refl;

@@ -11,15 +11,15 @@ use Rattle.trap_syscalls.proofs.forks.add_child.Goals as goal
 pub place-requires-clause-slot : goal.place-requires-clause-slot
 place-requires-clause-slot c =
     (answered-free c.args.world.now.processes c.set_answer.new.processes c.args.call.now.slot c.args.slot (c.args.world.now.forks + 2)
-    c.requires.calling.live c.requires.slot c.requires.none c.set_answer.ensures).0
+    c.requires.calling.live c.requires.slot c.requires.none c.set_answer.ensures.is).0
 
 pub place-requires-clause-none : goal.place-requires-clause-none
 place-requires-clause-none c =
     (answered-free c.args.world.now.processes c.set_answer.new.processes c.args.call.now.slot c.args.slot (c.args.world.now.forks + 2)
-    c.requires.calling.live c.requires.slot c.requires.none c.set_answer.ensures).1
+    c.requires.calling.live c.requires.slot c.requires.none c.set_answer.ensures.is).1
 
-pub returns : goal.returns
-returns c = λ m p content is there.
+pub returns-clause-called : goal.returns-clause-called
+returns-clause-called c = λ m p content is there.
     let w = c.args.world.now in
     let slot = c.args.call.now.slot in
     let free = c.args.slot in
@@ -29,7 +29,7 @@ returns c = λ m p content is there.
       world =
           forked-world m w c.args.call.now free region p content is c.requires.calling c.requires.may there c.requires.slot c.requires.none c.requires.region
           c.place.new.self c.fork.new.self c.take.new.self
-          (c.place.ensures ∙ ap (λ (t : Processes). with_slot t free (Some c.child_at-child.result)) (c.set_answer.ensures p at)
+          (c.place.ensures ∙ ap (λ (t : Processes). with_slot t free (Some c.child_at-child.result)) (c.set_answer.ensures.is p at)
           ∙ ap (λ (q : Process). with_slot (with_slot w.processes slot (Some (with_answer p (w.forks + 2)))) free (Some q)) (c.child_at-child.ensures p at))
           c.fork.ensures c.take.ensures;
       end =

@@ -26,7 +26,7 @@ returns-then-number-eq-FORK-clause-called g c m p content is there stands =
 pub returns-then-number-eq-WAIT-clause-called : goal.returns-then-number-eq-WAIT-clause-called
 returns-then-number-eq-WAIT-clause-called g c m p content is there stands =
     let asked = c.requires.asked p (caller-there m c.args.world.now c.args.call.now.slot p is there) in
-    called-by m c.args.call.now p content 3 _ _ asked c.if-number-eq-WAIT.true (c.wait.ensures m p content is there)
+    called-by m c.args.call.now p content 3 _ _ asked c.if-number-eq-WAIT.true (c.wait.ensures.called m p content is there)
 
 pub returns-then-number-eq-WAIT-clause-content : goal.returns-then-number-eq-WAIT-clause-content
 returns-then-number-eq-WAIT-clause-content g c m p content is there stands =
@@ -65,4 +65,4 @@ returns-clause-called g c m p content is there stands =
     let other : ◌≡◌ {A = calls.Call} (calls.call_of n) calls.Other =
     other-call n c.if-number-eq-EXIT.false c.if-number-eq-FORK.false c.if-number-eq-WAIT.false c.if-number-eq-GETPID.false c.if-number-eq-GETPPID.false c.if-number-eq-READ.false c.if-number-eq-WRITE.false c.if-number-eq-YIELD.false in
     called-by m c.args.call.now p content n _ _ asked refl
-    (subst (λ (k : calls.Call). HasCalled m c.args.call.now.slot p (row k (view_of m c.args.call.now.slot p) content) c.refuse.result c.refuse.new.world) (sym other) (c.refuse.ensures m p content is there))
+    (subst (λ (k : calls.Call). HasCalled m c.args.call.now.slot p (row k (view_of m c.args.call.now.slot p) content) c.refuse.result c.refuse.new.world) (sym other) (c.refuse.ensures.called m p content is there))

@@ -17,7 +17,7 @@ returns-then-ne-clause-called g c m p d world there stands =
     let asked = asks m c.args.world.now call p c.requires.asked world there in
     let looked = looked-at m c.args.world.now call p c.look.result world asked c.look.ensures in
     let closed = for-reading c.look.result c.ne.result c.ne.ensures ∙ ap not c.if-ne.true in
-    called-as m call.slot p _ _ _ _ (read-tested v d c.look.result looked ∙ tested-closed v d Write _ _ closed) (c.refuse.ensures m p d world there)
+    called-as m call.slot p _ _ _ _ (read-tested v d c.look.result looked ∙ tested-closed v d Write _ _ closed) (c.refuse.ensures.called m p d world there)
 
 pub returns-then-ne-clause-content : goal.returns-then-ne-clause-content
 returns-then-ne-clause-content g c m p d world there stands =
@@ -61,7 +61,7 @@ returns-then-not-may_transfer-clause-called g c m p d world there stands =
     let count : call.count ≡ count_of_call v = ap (λ (call : Call). call.count) asked in
     let fault = fault-of p d Write call.count (count_of_call v) c.may_transfer.result count (c.may_transfer.ensures.is p d asked stands) ∙ ap not c.if-not-may_transfer.true in
     called-as m call.slot p _ _ _ _ (read-tested v d c.look.result looked ∙ tested-fault v d Write _ _ opened (λ none. c.if-call-eq0.false (count ∙ none)) fault)
-    (c.refuse-then-not-may_transfer.ensures m p d world there)
+    (c.refuse-then-not-may_transfer.ensures.called m p d world there)
 
 pub returns-then-not-may_transfer-clause-content : goal.returns-then-not-may_transfer-clause-content
 returns-then-not-may_transfer-clause-content g c m p d world there stands =

@@ -28,8 +28,8 @@ set_reaped-requires c =
     ap (λ (t : Table). process_at t.processes slot) after ∙ without-at told.child.id ps slot ∙ ap (without_id told.child.id) here.is ∙ other-stays told.child.id here.process other in
     ap lives there ∙ here.live
 
-pub returns-in-Some : goal.returns-in-Some
-returns-in-Some c m p content is there =
+pub returns-in-Some-clause-called : goal.returns-in-Some-clause-called
+returns-in-Some-clause-called c m p content is there =
     let w = c.args.world.now in
     let ps = w.processes.processes in
     let slot : ℕ = c.args.call.now.slot in
@@ -44,7 +44,7 @@ returns-in-Some c m p content is there =
     let stays : process_at c.reap.new.self.processes slot ≡ Some p =
     ap (λ (t : Table). process_at t.processes slot) after ∙ without-at child.id ps slot ∙ ap (without_id child.id) here ∙ other-stays child.id p other in
     let written : c.set_reaped.new.processes ≡ with_slot (table.reaped w.processes (Some child)) slot (Some (with_second (with_answer p child.id) child.status)) =
-    c.set_reaped.ensures p stays ∙ same-written c.reap.new.self (table.reaped w.processes (Some child)) slot p c.in-Some.child child.id c.in-Some.status child.status after told.id_is told.status_is in
+    c.set_reaped.ensures.is p stays ∙ same-written c.reap.new.self (table.reaped w.processes (Some child)) slot p c.in-Some.child child.id c.in-Some.status child.status after told.id_is told.status_is in
     let found : first_ended p.id m.processes ≡ Some child = rw (← id, is.processes) told.is in
     let small : child.id < 2 ^ 63 = c.requires.reap.id child told.is in
     subst (λ (e : Effect). HasCalled m slot p e (record { end = Answered c.args.call.now.number (to_z w64 c.in-Some.child); touches = untouched ∷ untouched ∷ []; printed = 0 }) (record w { processes = c.set_reaped.new.processes }))
@@ -57,8 +57,8 @@ returns-in-Some c m p content is there =
       piece = refl;
     })
 
-pub returns-then-has_child : goal.returns-then-has_child
-returns-then-has_child c m p content is there =
+pub returns-then-has_child-clause-called : goal.returns-then-has_child-clause-called
+returns-then-has_child-clause-called c m p content is there =
     let ps = c.args.world.now.processes.processes in
     let slot : ℕ = c.args.call.now.slot in
     let here = caller-there m c.args.world.now slot p is there in
@@ -70,8 +70,8 @@ returns-then-has_child c m p content is there =
     let is-after : IsWorldOf m (record c.args.world.now { processes = c.reap.new.self }) = subst (λ (t : Table). IsWorldOf m (record c.args.world.now { processes = t })) (sym after) is in
     subst (λ (e : Effect). HasCalled m slot p e c.wait_in.result c.wait_in.new.world) (sym (row-waits m slot p content none-too some)) (c.wait_in.ensures.called m p content [] is-after there refl)
 
-pub returns-else-has_child : goal.returns-else-has_child
-returns-else-has_child c m p content is there =
+pub returns-else-has_child-clause-called : goal.returns-else-has_child-clause-called
+returns-else-has_child-clause-called c m p content is there =
     let ps = c.args.world.now.processes.processes in
     let slot : ℕ = c.args.call.now.slot in
     let here = caller-there m c.args.world.now slot p is there in
@@ -80,4 +80,4 @@ returns-else-has_child c m p content is there =
     let after : c.reap.new.self ≡ c.args.world.now.processes = c.reap.ensures.is ∙ ap (table.reaped c.args.world.now.processes) none in
     let alone : list_any (is_child p.id) m.processes ≡ false = rw (← id, is.processes, ← after) (sym c.has_child.ensures ∙ c.if-has_child.false) in
     let is-after : IsWorldOf m (record c.args.world.now { processes = c.reap.new.self }) = subst (λ (t : Table). IsWorldOf m (record c.args.world.now { processes = t })) (sym after) is in
-    subst (λ (e : Effect). HasCalled m slot p e c.refuse.result c.refuse.new.world) (sym (row-refused m slot p content alone)) (c.refuse.ensures m p content is-after there)
+    subst (λ (e : Effect). HasCalled m slot p e c.refuse.result c.refuse.new.world) (sym (row-refused m slot p content alone)) (c.refuse.ensures.called m p content is-after there)
