@@ -1,0 +1,13 @@
+pub mod NextQuanta
+pub mod ReadyParts
+pub mod Marking
+pub mod FewTouches
+pub mod Resumed
+pub mod Instructed
+pub mod Props
+pub mod Quiet
+pub mod Picking
+pub mod Stepped
+pub mod Living
+pub mod Booted
+pub mod Sure
