@@ -1,12 +1,10 @@
 -- What a kernel's clauses speak of.
-use Rattle.std.specs.Prelude.{ℕ, ◌≡◌, ◌≤◌, ◌<◌, List, Result, Ok, Err, take}
+use Rattle.std.specs.Prelude.{ℕ, ◌≡◌, ◌<◌, List, take}
 use Rattle.contents.specs.Content.{Content}
 use Rattle.stores.specs.declared.space.Stores.{Ghosts}
 use Rattle.machine.specs.Machines.{Machine}
-use Rattle.machine_steps.specs.Runs.{Setup, start}
 use Rattle.kernel_loop.specs.Stands.{CoreStands}
 use Rattle.kernel_loop.specs.declared.kernel.Kernel.{Kernel}
-use Rattle.kernel_loop.specs.declared.kernel.BootRefusal.{BootRefusal}
 use Rattle.kernel_loop.specs.declared.kernel.BootReason.{BootReason}
 use Rattle.kernel_loop.specs.declared.kernel.BootReason.TheVariants.{NoFrames, NoMemory}
 
@@ -22,13 +20,11 @@ steps_of k = k.core.clock.steps
 abbrev pub piece_of : {S : Type 0} {g : Ghosts S} → Kernel S g → List ℕ
 piece_of k = take k.core.printed k.core.world.buffer.items
 
--- so many pages are more than so many frames, and both are told
+-- so many pages are more than so many frames, and both are told; or memory was wanted
 abbrev pub IsReason : ℕ → ℕ → BootReason → Type 0
 IsReason pages frames (NoFrames needed there) = (frames < pages) × (needed ≡ pages) × (there ≡ frames)
 IsReason pages frames NoMemory = Unit {0}
 
--- A kernel was booted that stands for the machine where the image was started, which has a frame for each page; or the space comes back as it
--- was.
-abbrev pub IsBooted : {S : Type 0} {g : Ghosts S} → (S → Content → Type 0) → Setup → ℕ → S → Result (Kernel S g) (BootRefusal S) → Type 0
-IsBooted stands_for setup pages space (Ok k) = (pages ≤ setup.config.frames) × KernelStands stands_for k (start setup)
-IsBooted stands_for setup pages space (Err refusal) = (refusal.space ≡ space) × IsReason pages setup.config.frames refusal.reason
+-- so the reason says
+abbrev pub ReasonsAreTold : Type 0
+ReasonsAreTold = (pages frames needed there : ℕ) → IsReason pages frames (NoFrames needed there) → (frames < pages) × (needed ≡ pages) × (there ≡ frames)

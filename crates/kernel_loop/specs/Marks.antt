@@ -29,7 +29,8 @@ IsRemarked old new = new ≡ record old { processes = record old.processes { mar
 abbrev pub AreMarked : Machine → List Bool → Type 0
 AreMarked m marks = (slot : ℕ) → slot < length m.processes → slice_index_or marks slot false ≡ is_ready m slot
 
--- A work that ended so may have changed whether others are ready. A wait is known by its number.
+-- A work that ended so may have changed whether others are ready: it added or ended a process. A wait is counted, too, and known by its number. No
+-- call changes a pipe so far.
 abbrev pub changes_others : WorkEnd → Bool
 changes_others Plain = false
 changes_others (Answered number answer) = number == wait_call

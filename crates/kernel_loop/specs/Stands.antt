@@ -42,7 +42,7 @@ pub record IsKept {S : Type 0} (k : Core S) : Type 0 where
   pub long : length k.world.processes.marks ≡ length k.world.processes.processes
   pub marks : (c : Content) → AreMarked (machine_of k c) k.world.processes.marks
 
--- it stands for some sound machine with this property
+-- it stands for some sound machine with this property, and what it keeps beside is right
 pub record SomeMachine {S : Type 0} (stands_for : S → Content → Type 0) (k : Core S) (P : Machine → Type 0) : Type 0 where
   pub machine : Machine
   pub stands : CoreStands stands_for k machine
@@ -60,7 +60,7 @@ pub record CanStep (m : Machine) : Type 0 where
   pub running : outcome_of m ≡ Running
   pub early : m.clock.steps < step_limit
 
--- The machine of which a slot works: it is dispatched where no slot is current, and this is what is told.
+-- the machine of which a slot works: the slot is dispatched where none is current
 abbrev pub picked_from : Machine → Option ℕ → Option ℕ → Machine
 picked_from m (Some slot) next = m
 picked_from m None (Some slot) = dispatched m slot
@@ -69,6 +69,7 @@ picked_from m None None = m
 abbrev pub picked : Machine → Machine
 picked m = picked_from m m.clock.current (next_ready m)
 
+-- and what is told of it: the current slot and no dispatch, or the next one
 abbrev pub slot_from : Option ℕ → Option ℕ → ℕ × Option Quantum → Type 0
 slot_from (Some slot) next told = told ≡ (slot, None)
 slot_from None None told = ⊥

@@ -87,6 +87,7 @@ pub(crate) fn first_core<S: Stores>(
     requires world { IsEmptyWorld config world.input.items world }
     requires fresh { S.stands_for space (nothing config.rule config.frames) }
     ensures stands { CoreStands S.stands_for result (start (record { config = config; schedule = schedule; file = bytes.now; input = world.input.items })) }
+    ensures silent { result.printed ≡ 0 }
     ensures kept { IsKept result }
 {
     let mut world = world;

@@ -1,5 +1,5 @@
 // The kernel: what it is booted from, its steps, and what may be seen of it.
-ghost use Rattle.std.specs.Prelude.{◌≡◌, ◌<◌, ◌≤◌, ◌+◌, All, Ok};
+ghost use Rattle.std.specs.Prelude.{◌≡◌, ◌<◌, ◌≤◌, ◌+◌, [], All, IfOk, IfErr, Ok};
 ghost use Rattle.contents.specs.Content.{nothing};
 ghost use Rattle.elf_loader.specs.Loaded.{IsRead};
 ghost use Rattle.machine_types.specs.declared.config.Outcome.TheVariants.{Running};
@@ -8,9 +8,9 @@ ghost use Rattle.machine.specs.Readiness.{outcome_of};
 ghost use Rattle.machine.specs.Shape.{IsConfig};
 ghost use Rattle.machine.specs.Sound.{IsQuantum};
 ghost use Rattle.machine_steps.specs.Numbers.{step_limit};
-ghost use Rattle.machine_steps.specs.Runs.{quanta_of};
+ghost use Rattle.machine_steps.specs.Runs.{quanta_of, start};
 ghost use Rattle.machine_steps.specs.Steps.{step_of};
-ghost use Rattle.kernel_loop.specs.Stands.{SomeMachine, Any};
+ghost use Rattle.kernel_loop.specs.Stands.{SomeMachine, Any, IsKept};
 
 use crate::boot::{are_bytes, empty_world, first_core};
 use crate::stepping::Core;
@@ -50,10 +50,10 @@ pub struct Kernel<S: Stores> {
 }
 
 impl<S: Stores> Kernel<S> {
-    ghost use Rattle.kernel_loop.specs.Kernels.{KernelStands, IsBooted, steps_of, piece_of};
+    ghost use Rattle.kernel_loop.specs.Kernels.{KernelStands, IsReason, steps_of, piece_of};
 
-    /// A kernel with process 1, which has the image's pages in region 0 and stands in slot 0. It has made no step, and the console's input
-    /// is `input`.
+    /// A kernel with process 1, which has the image's pages in region 0 and stands in slot 0. It has made no step and printed nothing, and the
+    /// console's input is `input`.
     ///
     /// The numbers of `config` are within its limits, `image` was read from `bytes`, no region of `space` has a store and no page a class,
     /// its rule and its number of frames are those of `config`, and each quantum of the schedule is from 1 to 1000000.
@@ -74,7 +74,11 @@ impl<S: Stores> Kernel<S> {
         requires read { IsRead bytes.now (Ok image.now) }
         requires quanta { All IsQuantum (quanta_of schedule) }
         requires fresh { S.stands_for space (nothing config.now.rule config.now.frames) }
-        ensures { IsBooted S.stands_for (record { config = config.now; schedule = schedule; file = bytes.now; input = input.items }) image.now.pages space result }
+        ensures stands { IfOk result (λ k. KernelStands S.stands_for k (start (record { config = config.now; schedule = schedule; file = bytes.now; input = input.items }))) }
+        ensures silent { IfOk result (λ k. piece_of k ≡ []) }
+        ensures room { IfOk result (λ k. image.now.pages ≤ config.now.frames) }
+        ensures back { IfErr result (λ refusal. refusal.space ≡ space) }
+        ensures lacked { IfErr result (λ refusal. IsReason image.now.pages config.now.frames refusal.reason) }
     {
         are_bytes(bytes);
         are_bytes(&input);
@@ -142,9 +146,11 @@ impl<S: Stores> Kernel<S> {
         self.core.printed()
     }
 
-    /// Its processes, descriptors, pipes, plan of regions and console.
+    /// Its processes, descriptors, pipes, plan of regions and console. Each slot is marked exactly where its process is ready, and a region is
+    /// taken exactly where a live process has it.
     pub fn world(&self) -> &World
-        ensures { result.now ≡ self.now.core.world }
+        ensures is { result.now ≡ self.now.core.world }
+        ensures kept { IsKept self.now.core }
     {
         &self.core.world
     }

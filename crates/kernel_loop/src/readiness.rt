@@ -54,7 +54,8 @@ fn mark(world: &mut World, slot: u32)
     world.processes.mark(slot, ready);
 }
 
-// Whether a work that ended so may have changed whether others are ready: a process was added, removed or ended.
+// Whether a work that ended so may have changed whether others are ready: a process was added or ended. A wait, which may have removed one, is
+// counted, too.
 fn changes_others(end: WorkEnd) -> bool
     ensures { result ≡ changes_others end }
 {
