@@ -55,10 +55,9 @@ impl FramePool {
         self.size
     }
 
-    /// Makes the pool, of which no frame is used, one of `n` frames, from 1 to the number that was made.
+    /// Makes the pool, of which no frame is used, one of `n` frames, at most the number that was made.
     pub fn set_size(&mut self, n: u32)
         requires none { used_count self.old ≡ 0 }
-        requires least { 1 ≤ n }
         requires most { n ≤ length self.old.used }
         ensures { self.new ≡ record self.old { size = n } }
     {

@@ -27,10 +27,11 @@ impl FullSpace {
     ghost use Rattle.machine_types.specs.declared.config.Rule.TheVariants.{Full};
     ghost use Rattle.full_space.specs.Full.{FullStands, frames_of};
 
-    /// A space on an empty board, in which no region has a store.
+    /// A space on an empty board, in which no region has a store. The board is as it was.
     pub fn new(board: Board) -> FullSpace
         requires { IsEmpty board }
-        ensures { FullStands result (nothing Full board.pool.size) }
+        ensures stands { FullStands result (nothing Full board.pool.size) }
+        ensures board { result.board ≡ board }
     {
         empty_stands_for_nothing();
         FullSpace {
@@ -39,10 +40,11 @@ impl FullSpace {
         }
     }
 
-    /// Its board, which stands for what the space stood for. Its memory has the frames that the space showed.
+    /// Its board as it is, which stands for what the space stood for. Its memory has the frames that the space showed.
     pub fn into_board(self) -> Board
         ensures stands { (c : Content) → FullStands self c → Stands result c }
         ensures memory { result.memory ≡ frames_of self }
+        ensures board { result ≡ self.board }
     {
         self.board
     }

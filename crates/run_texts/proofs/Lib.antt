@@ -1,1 +1,2 @@
 pub mod SchedulesWithin
+pub mod QuantaLemmas

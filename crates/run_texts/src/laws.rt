@@ -1,6 +1,6 @@
-// Laws of schedules: each is a function that states one, does nothing and takes nothing.
+// Laws of schedules and lines: each is a function that states one, does nothing and takes nothing.
 ghost use Rattle.run_texts.specs.Schedules.{SchedulesAreExact};
-ghost use Rattle.run_texts.specs.Examples.{WorkedSchedulesHold};
+ghost use Rattle.run_texts.specs.Examples.{WorkedSchedulesHold, WorkedEndingsHold};
 
 /// The quanta of a schedule and its first wrong line, in numbers.
 pub fn schedules_are_exact()
@@ -10,4 +10,9 @@ pub fn schedules_are_exact()
 /// Texts that were worked out by hand are read as that.
 pub fn worked_schedules_hold()
     ensures { WorkedSchedulesHold }
+{}
+
+/// Lines that were worked out by hand are those.
+pub fn worked_endings_hold()
+    ensures { WorkedEndingsHold }
 {}

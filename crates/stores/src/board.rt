@@ -65,10 +65,9 @@ impl Board {
             && has_no_entry(&self.table)
     }
 
-    /// Makes the empty board one of `n` frames, from 1 to the number that was made. It stays empty.
+    /// Makes the empty board one of `n` frames, at most the number that was made. It stays empty.
     pub fn set_frames(&mut self, n: u32)
         requires empty { IsEmpty self.old }
-        requires least { 1 ≤ n }
         requires most { n ≤ made_frames self.old }
         ensures is { self.new ≡ record self.old { pool = record self.old.pool { size = n } } }
         ensures empty { IsEmpty self.new }

@@ -11,12 +11,13 @@ use Rattle.command_words.specs.declared.words.Command.{Command}
 use Rattle.command_words.specs.declared.words.Command.TheVariants as command
 use Rattle.command_words.specs.Commands.{read_of}
 use Rattle.ufork_program.specs.Numbers.{most_input}
-use Rattle.ufork_program.specs.Machine.{Machine, Setup}
+use Rattle.machine.specs.Machines.{Machine}
+use Rattle.machine_steps.specs.Runs.{Setup}
 use Rattle.ufork_program.specs.Run.{run_course}
 use Rattle.ufork_program.specs.Answer.{word_at, Sources, usage, cannot_read, image_refused, schedule_refused, input_too_long, frames_lacked, refused}
 use Rattle.ufork_program.specs.Answer.{frames_course, input_course, text_course, schedule_course, option_course, image_course, file_course, command_course, course}
 use Rattle.ufork_program.specs.Request.{setup_of, parts_shown, course_of, file_index, ReadsImage, NamesFile, NamesNoImage, NamesImage, NamesNoSchedule, HasSchedule, IsScheduleAt, NamesFiles}
-use Rattle.ufork_program.specs.Request.{HasLongInput, NamesGuest, NamesTooMany, CanRun, IsUsable, IsRequestOf, ComesOf, HasFilesCause, HasInputCause}
+use Rattle.ufork_program.specs.Request.{HasLongInput, NamesGuest, NamesTooMany, CanRun, IsUsable, IsRequestOf, ComesOf, HasFilesCause, IsInputAfter}
 use Rattle.ufork_program.specs.Headline.{Call, OfSources, OfCourse, Went}
 use Rattle.ufork_program.specs.declared.request.Guest.{Guest}
 use Rattle.ufork_program.specs.declared.request.Request.{Request}
@@ -149,11 +150,11 @@ pub record WentBy (call : Call) (request : Request) : Type 0 where
   pub usable : IsUsable call.words request
   pub comes : ComesOf call.words call.old.files.contents call.old.input.left request
   pub files_cause : HasFilesCause call.words call.old.files call.new.files request
-  pub input_cause : HasInputCause call.old.input call.new.input request
+  pub input_after : IsInputAfter call.old.input call.new.input request
 
 -- those of a call that went so
 pub went_by : (call : Call) (h : Went call) → WentBy call h.request
-went_by call h = record { usable = h.usable; comes = h.comes; files_cause = h.files_cause; input_cause = h.input_cause }
+went_by call h = record { usable = h.usable; comes = h.comes; files_cause = h.files_cause; input_after = h.input_after }
 
 -- there is a frame for each page of the bytes of a guest that can run
 pub has_room : (guest : Guest) → CanRun guest → (image_of guest.bytes.items).pages ≤ guest.config.frames

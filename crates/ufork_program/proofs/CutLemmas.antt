@@ -10,10 +10,10 @@ use Rattle.asm_text.specs.declared.source.SourceFault.{SourceFault}
 use Rattle.command_words.specs.declared.words.Command.TheVariants as command
 use Rattle.command_words.specs.Commands.{read_of}
 use Rattle.run_texts.specs.Schedules.{schedule_of}
-use Rattle.ufork_program.specs.Machine.{Setup}
+use Rattle.machine_steps.specs.Runs.{Setup}
 use Rattle.ufork_program.specs.Input.{TookAll, TookTooMany}
 use Rattle.ufork_program.specs.Answer.{Files, Sources}
-use Rattle.ufork_program.specs.Request.{setup_of, parts_shown, course_of, file_index, NamesNoSource, IsShownOf, NamesShown, NamesNoImage, NamesNoSchedule, HasSchedule, IsScheduleAt, NamesGuest, ReadsInput, HasLongInput, AreTold, HasFilesCause, HasInputCause}
+use Rattle.ufork_program.specs.Request.{setup_of, parts_shown, course_of, file_index, NamesNoSource, IsShownOf, NamesShown, NamesNoImage, NamesNoSchedule, HasSchedule, IsScheduleAt, NamesGuest, ReadsInput, HasLongInput, AreTold, HasFilesCause, IsInputAfter}
 use Rattle.ufork_program.specs.Headline.{Call, WasCut, CutWith, CourseCut}
 use Rattle.ufork_program.specs.declared.request.Request.{Request}
 use Rattle.ufork_program.specs.declared.request.Request.TheVariants.{Refused, NoMemory, Run, Show}
@@ -27,11 +27,13 @@ files_kept_unless words old new (Refused (CannotRead index)) cause = inr (index,
 files_kept_unless words old new request cause = inl cause
 
 -- no read of the input failed, unless it was refused for that
-pub unbroken_unless : (old new : SourceState) (request : Request) → HasInputCause old new request → (new.faults ≡ old.faults) ⊎ (request ≡ Refused InputFailed)
+pub unbroken_unless : (old new : SourceState) (request : Request) → IsInputAfter old new request → (new.faults ≡ old.faults) ⊎ (request ≡ Refused InputFailed)
 unbroken_unless old new (Refused InputFailed) cause = inr refl
 unbroken_unless old new (Refused InputTooLong) cause = inl cause.kept
 unbroken_unless old new (Refused (NoFrames pages frames)) cause = inl cause.all.kept
 unbroken_unless old new (Run guest) cause = inl cause.kept
+unbroken_unless old new NoMemory (inl cause) = inl (ap (λ source. source.faults) cause)
+unbroken_unless old new NoMemory (inr cause) = inl cause.all.kept
 unbroken_unless old new request cause = inl (ap (λ source. source.faults) cause)
 
 -- words that name a guest ask for the input
@@ -116,12 +118,12 @@ module _ (c : Call) where
   taken_by (Refused (NoImage fault)) of by = none_taken by.comes.sources (no_image_reads_none c.words by.comes.sources.files fault by.comes.is)
   taken_by (Refused (NoSchedule line)) of by = none_taken by.comes.sources (no_schedule_reads_none c.words by.comes.sources.files line by.comes.is)
   taken_by (Refused InputFailed) of by = absurd of
-  taken_by (Refused InputTooLong) of by = too_many_taken by.comes.sources by.comes.is by.input_cause
-  taken_by (Refused (NoFrames pages frames)) of by = all_taken by.comes.sources by.comes.is.setup by.input_cause.bytes by.comes.told by.comes.is.names by.input_cause.all
+  taken_by (Refused InputTooLong) of by = too_many_taken by.comes.sources by.comes.is by.input_after
+  taken_by (Refused (NoFrames pages frames)) of by = all_taken by.comes.sources by.comes.is.setup by.input_after.bytes by.comes.told by.comes.is.names by.input_after.all
   taken_by (Refused (NoSource fault)) of by = none_taken by.comes.sources (no_source_reads_none c.words by.comes.sources.files fault by.comes.is)
   taken_by NoMemory of by = absurd of
   taken_by (Show parts) of by = none_taken by.comes.sources (shown_reads_none c.words by.comes.sources.files (parts_shown parts) by.comes.is)
-  taken_by (Run guest) of by = all_taken by.comes.sources (setup_of guest) guest.input.items by.comes.told by.comes.is by.input_cause
+  taken_by (Run guest) of by = all_taken by.comes.sources (setup_of guest) guest.input.items by.comes.told by.comes.is by.input_after
 
   -- where neither a file nor the input failed, the course of the sources was cut
   pub course_cut : (request : Request) → IsOfCourse request → WentBy c request → WasCut c (course_of c.words request) → CourseCut c
@@ -129,7 +131,7 @@ module _ (c : Call) where
       let taken = taken_by request of by in
       record {
         kept = elim (files_kept_unless c.words c.old.files c.new.files request by.files_cause) [ inl kept ↦ kept | inr found ↦ absurd (subst IsOfCourse found.1 of) ];
-        unbroken = elim (unbroken_unless c.old.input c.new.input request by.input_cause) [ inl kept ↦ kept | inr found ↦ absurd (subst IsOfCourse found of) ];
+        unbroken = elim (unbroken_unless c.old.input c.new.input request by.input_after) [ inl kept ↦ kept | inr found ↦ absurd (subst IsOfCourse found of) ];
         cut = request-told c request (CutWith c) by (record {
           cut = subst (WasCut c) (sym (came_leads c.words by.comes.sources request of by.usable by.comes.is)) cut;
           all = taken.all;

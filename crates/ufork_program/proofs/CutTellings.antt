@@ -7,8 +7,11 @@ use Rattle.outside_io.specs.Answers.{Answer, refusal}
 use Rattle.outside_io.specs.Moments.{Moment, Course, parts_of, while_stands}
 use Rattle.outside_io.proofs.MomentLemmas.{parts_of-append, parts_of-while}
 use Rattle.ufork_program.specs.Lines.{cannot_read_line, input_failed_line}
-use Rattle.ufork_program.specs.Machine.{Machine, Setup, start}
-use Rattle.ufork_program.specs.Run.{run_moments, run_end, last_line, run_course, course_from, state_after, moments_of, EndsAtTheLeast, RunsEndAtTheLeast}
+use Rattle.machine.specs.Machines.{Machine}
+use Rattle.machine_steps.specs.Runs.{Setup, start}
+use Rattle.machine_steps.specs.Steps.{state}
+use Rattle.ufork_program.specs.declared.run.Show.TheVariants.{Console}
+use Rattle.ufork_program.specs.Run.{run_moments, run_end, last_line, run_course, course_from, moments_of, EndsAtTheLeast, RunsEndAtTheLeast}
 use Rattle.ufork_program.specs.Request.{NamesGuest, HasLongInput}
 use Rattle.ufork_program.specs.Answer.{Sources, course, refused, shown, cannot_read, input_failed}
 use Rattle.ufork_program.specs.Headline.{Call, Left, WasCut, LineCut, InputLineCut, CourseCut}
@@ -75,17 +78,17 @@ module _ (call : Call) (sources : Sources) (told : Tells call sources) where
 
   module _ (m : Machine) (limit : ℕ) where
     -- A cut moment of the steps is a cut part of one of them.
-    cut-in_step : (h : WasCut call (course_from m limit)) (ends : EndsAtTheLeast m limit) → IsInStep m ends.steps h.before h.part h.state → CutInStep call m limit
+    cut-in_step : (h : WasCut call (course_from Console m limit)) (ends : EndsAtTheLeast Console m limit) → IsInStep m ends.steps h.before h.part h.state → CutInStep call m limit
     cut-in_step h ends step =
-        let earlier : parts_of h.before ≡ parts_of (moments_of m step.steps) ++ step.before =
-        ap parts_of step.earlier_are ∙ parts_of-append (moments_of m step.steps) (while_stands (Some (state_after m (suc step.steps))) step.before)
-        ∙ ap (λ l. parts_of (moments_of m step.steps) ++ l) (parts_of-while (Some (state_after m (suc step.steps))) step.before) in
-        let left : Left call (Some (state_after m (suc step.steps))) = subst (Left call) step.stands_is h.left in
+        let earlier : parts_of h.before ≡ parts_of (moments_of Console m step.steps) ++ step.before =
+        ap parts_of step.earlier_are ∙ parts_of-append (moments_of Console m step.steps) (while_stands (Some (state m (suc step.steps))) step.before)
+        ∙ ap (λ l. parts_of (moments_of Console m step.steps) ++ l) (parts_of-while (Some (state m (suc step.steps))) step.before) in
+        let left : Left call (Some (state m (suc step.steps))) = subst (Left call) step.stands_is h.left in
         let next : suc step.steps ≡ step.steps + 1 = omega arith in
         record {
           steps = step.steps;
           within = omega (arith, step.within, ends.within);
-          live = ends.live step.steps step.within;
+          running = ends.running step.steps step.within;
           before = step.before;
           part = h.part;
           after = step.after;
@@ -94,28 +97,28 @@ module _ (call : Call) (sources : Sources) (told : Tells call sources) where
           rose = h.rose;
           count = h.count;
           written = subst (λ l. Written (l ++ front_of h.count h.part ∷ []) (console_of call.old) (console_of call.new)) earlier h.written;
-          stands = subst (λ n. Left call (Some (state_after m n))) next left;
+          stands = subst (λ n. Left call (Some (state m n))) next left;
         }
 
     -- A cut moment after the steps is the last line.
-    cut-at_last : (h : WasCut call (course_from m limit)) (rest : List (Moment (Option Machine))) → h.before ≡ run_moments m limit ++ rest
+    cut-at_last : (h : WasCut call (course_from Console m limit)) (rest : List (Moment (Option Machine))) → h.before ≡ run_moments Console m limit ++ rest
         → (rest ≡ []) × (h.part ≡ err_part (last_line (run_end m limit))) × (h.state ≡ Some (run_end m limit)) → CutAtLastLine call m limit
     cut-at_last h rest is last =
-        let earlier : h.before ≡ run_moments m limit = is ∙ ap (λ l. run_moments m limit ++ l) last.0 ∙ append-nil (run_moments m limit) in
-        let written : Written (parts_of (run_moments m limit) ++ front_of h.count h.part ∷ []) (console_of call.old) (console_of call.new) =
+        let earlier : h.before ≡ run_moments Console m limit = is ∙ ap (λ l. run_moments Console m limit ++ l) last.0 ∙ append-nil (run_moments Console m limit) in
+        let written : Written (parts_of (run_moments Console m limit) ++ front_of h.count h.part ∷ []) (console_of call.old) (console_of call.new) =
         subst (λ l. Written (parts_of l ++ front_of h.count h.part ∷ []) (console_of call.old) (console_of call.new)) earlier h.written in
         record {
           rose = subst (λ p. RoseAt p (console_of call.old) (console_of call.new)) last.1 h.rose;
           count = h.count;
-          written = subst (λ p. Written (parts_of (run_moments m limit) ++ front_of h.count p ∷ []) (console_of call.old) (console_of call.new)) last.1 written;
+          written = subst (λ p. Written (parts_of (run_moments Console m limit) ++ front_of h.count p ∷ []) (console_of call.old) (console_of call.new)) last.1 written;
           stands = subst (Left call) last.2 h.left;
         }
 
     -- So a cut moment of a run is a part of a step, or the last line.
-    cut-in_run : EndsAtTheLeast m limit → WasCut call (course_from m limit) → CutInStep call m limit ⊎ CutAtLastLine call m limit
-    cut-in_run ends h = by (split (run_moments m limit) ((err_part (last_line (run_end m limit)), Some (run_end m limit)) ∷ []) h.before (h.part, h.state) h.after h.list)
+    cut-in_run : EndsAtTheLeast Console m limit → WasCut call (course_from Console m limit) → CutInStep call m limit ⊎ CutAtLastLine call m limit
+    cut-in_run ends h = by (split (run_moments Console m limit) ((err_part (last_line (run_end m limit)), Some (run_end m limit)) ∷ []) h.before (h.part, h.state) h.after h.list)
       where
-        by : IsSplit (run_moments m limit) ((err_part (last_line (run_end m limit)), Some (run_end m limit)) ∷ []) h.before (h.part, h.state) h.after
+        by : IsSplit (run_moments Console m limit) ((err_part (last_line (run_end m limit)), Some (run_end m limit)) ∷ []) h.before (h.part, h.state) h.after
             → CutInStep call m limit ⊎ CutAtLastLine call m limit
         by (in_first rest is) = inl (cut-in_step h ends (in_step m ends.steps h.before h.part h.state rest (sym ends.moments ∙ is)))
         by (in_second rest is tail) = inr (cut-at_last h rest is (one_moment (err_part (last_line (run_end m limit))) (Some (run_end m limit)) rest h.part h.state h.after tail))
@@ -125,7 +128,7 @@ module _ (call : Call) (sources : Sources) (told : Tells call sources) where
       → call.new.input.faults ≡ call.old.input.faults → CourseCut call ⊎ (LineCut call ⊎ InputLineCut call)
       → CutInStep call (start setup) setup.config.steps ⊎ CutAtLastLine call (start setup) setup.config.steps
   run-told ends setup is below kept unbroken (inl h) =
-      cut-in_run (start setup) setup.config.steps (ends (start setup) setup.config.steps) (course-told (run_course setup) is h)
+      cut-in_run (start setup) setup.config.steps (ends Console (start setup) setup.config.steps) (course-told (run_course setup) is h)
   run-told ends setup is below kept unbroken (inr h) = absurd (line-not_cut call below kept unbroken h)
 
   -- The input of a cut run was read to its end.

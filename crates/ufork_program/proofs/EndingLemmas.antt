@@ -1,7 +1,11 @@
 -- The endings of a course, and their statuses.
-use Rattle.std.proofs.Common.{◌≡◌, ◌≢◌, ℕ, List, Bool, true, false, Contains, if◌then◌else◌, nat_eq, refl, sym, ap, ◌∙◌, arith}
+use Rattle.std.proofs.Common.{◌≡◌, ◌≢◌, ℕ, List, Contains, if◌then◌else◌, nat_eq, refl, sym, ap, ◌∙◌, arith}
 use Rattle.outside_io.specs.Answers.{write_fault}
-use Rattle.ufork_program.specs.Machine.{Machine, start}
+use Rattle.machine_types.specs.declared.config.Outcome.{Outcome}
+use Rattle.machine_types.specs.declared.config.Outcome.TheVariants.{Running, Done, Stuck}
+use Rattle.machine.specs.Machines.{Machine}
+use Rattle.machine.specs.Readiness.{outcome_of}
+use Rattle.machine_steps.specs.Runs.{start, status_of}
 use Rattle.ufork_program.specs.Run.{run_end}
 use Rattle.ufork_program.specs.Request.{setup_of, course_of}
 use Rattle.ufork_program.specs.Headline.{statuses}
@@ -23,6 +27,7 @@ pub data Ending : Type 0 where
   memory_end : Ending
   done_end : Ending
   stopped_end : Ending
+  stuck_end : Ending
 
 -- each has its status
 abbrev pub status_at : Ending → ℕ
@@ -37,13 +42,14 @@ status_at source_end = 13
 status_at memory_end = 10
 status_at done_end = 0
 status_at stopped_end = 8
+status_at stuck_end = 9
 
 -- by which it is found
 abbrev ending_at : ℕ → Ending
 ending_at n =
     if nat_eq n 2 then words_end else if nat_eq n 3 then file_end else if nat_eq n 4 then image_end else if nat_eq n 5 then schedule_end
     else if nat_eq n 6 then input_end else if nat_eq n 11 then length_end else if nat_eq n 12 then frames_end else if nat_eq n 13 then source_end
-    else if nat_eq n 10 then memory_end else if nat_eq n 0 then done_end else stopped_end
+    else if nat_eq n 10 then memory_end else if nat_eq n 0 then done_end else if nat_eq n 8 then stopped_end else stuck_end
 
 -- it is
 ending_at-status : (e : Ending) → ending_at (status_at e) ≡ e
@@ -58,6 +64,7 @@ ending_at-status source_end = refl
 ending_at-status memory_end = refl
 ending_at-status done_end = refl
 ending_at-status stopped_end = refl
+ending_at-status stuck_end = refl
 
 -- so endings with one status are one
 pub same_ending : (a b : Ending) → status_at a ≡ status_at b → a ≡ b
@@ -76,6 +83,7 @@ not_fault_at source_end h = omega arith
 not_fault_at memory_end h = omega arith
 not_fault_at done_end h = omega arith
 not_fault_at stopped_end h = omega arith
+not_fault_at stuck_end h = omega arith
 
 -- each status is one of those that there are
 pub known_at : (e : Ending) → Contains statuses (status_at e)
@@ -84,26 +92,31 @@ known_at file_end = (2, omega arith, refl)
 known_at image_end = (3, omega arith, refl)
 known_at schedule_end = (4, omega arith, refl)
 known_at input_end = (5, omega arith, refl)
-known_at length_end = (9, omega arith, refl)
-known_at frames_end = (10, omega arith, refl)
-known_at source_end = (11, omega arith, refl)
-known_at memory_end = (8, omega arith, refl)
+known_at length_end = (10, omega arith, refl)
+known_at frames_end = (11, omega arith, refl)
+known_at source_end = (12, omega arith, refl)
+known_at memory_end = (9, omega arith, refl)
 known_at done_end = (0, omega arith, refl)
 known_at stopped_end = (7, omega arith, refl)
+known_at stuck_end = (8, omega arith, refl)
 
--- the ending of a run, by whether its process is live
-abbrev pub run_ending : Bool → Ending
-run_ending live = if live then stopped_end else done_end
+-- the ending of a run, by how its machine stands
+abbrev pub run_ending : Outcome → Ending
+run_ending Done = done_end
+run_ending Running = stopped_end
+run_ending Stuck = stuck_end
 
 -- whose status is that of the run
-run_ending-status : (live : Bool) → (if live then 8 else 0) ≡ status_at (run_ending live)
-run_ending-status true = refl
-run_ending-status false = refl
+run_ending-status : (o : Outcome) → status_of o ≡ status_at (run_ending o)
+run_ending-status Done = refl
+run_ending-status Running = refl
+run_ending-status Stuck = refl
 
--- a status that is neither of the two is none of a run
-pub run_ending-neither : (live : Bool) (status : ℕ) → status ≡ (if live then 8 else 0) → status ≢ 0 → status ≢ 8 → ⊥
-run_ending-neither true status e done stopped = stopped e
-run_ending-neither false status e done stopped = done e
+-- a status that is none of the three is none of a run
+pub run_ending-none : (o : Outcome) (status : ℕ) → status ≡ status_of o → status ≢ 0 → status ≢ 8 → status ≢ 9 → ⊥
+run_ending-none Done status e done stopped stuck = done e
+run_ending-none Running status e done stopped stuck = stopped e
+run_ending-none Stuck status e done stopped stuck = stuck e
 
 -- the machine at the end of the run of a guest
 abbrev pub end_of : Guest → Machine
@@ -120,7 +133,7 @@ ending_of (Refused InputTooLong) = length_end
 ending_of (Refused (NoFrames pages frames)) = frames_end
 ending_of (Refused (NoSource fault)) = source_end
 ending_of NoMemory = memory_end
-ending_of (Run guest) = run_ending (end_of guest).live
+ending_of (Run guest) = run_ending (outcome_of (end_of guest))
 ending_of (Show parts) = done_end
 
 -- has its status
@@ -134,7 +147,7 @@ ending_of-status words (Refused InputTooLong) = refl
 ending_of-status words (Refused (NoFrames pages frames)) = refl
 ending_of-status words (Refused (NoSource fault)) = refl
 ending_of-status words NoMemory = refl
-ending_of-status words (Run guest) = run_ending-status (end_of guest).live
+ending_of-status words (Run guest) = run_ending-status (outcome_of (end_of guest))
 ending_of-status words (Show parts) = refl
 
 -- no course has the status of a write fault

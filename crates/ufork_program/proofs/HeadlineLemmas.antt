@@ -1,14 +1,17 @@
 -- From how a call went to what it promises.
-use Rattle.std.proofs.Common.{◌≡◌, ◌≢◌, ℕ, [], Bool, true, false, None, IsOk, Contains, refl, sym, ap, ◌∙◌, subst, arith, inl, inr, ◌⊎◌}
+use Rattle.std.proofs.Common.{◌≡◌, ◌≢◌, ℕ, [], None, IsOk, Contains, refl, sym, ap, ◌∙◌, subst, arith, inl, inr, ◌⊎◌}
 use Rattle.outside_io.specs.Faults.{Rose}
 use Rattle.outside_io.specs.States.{NoneRose, SinksStill, SinkRose, CountsBelowLast}
 use Rattle.outside_io.specs.Parts.{console_of, Quiet}
-use Rattle.outside_io.specs.Answers.{write_fault}
+use Rattle.outside_io.specs.Answers.{memory_wanted, write_fault}
 use Rattle.outside_io.proofs.AnswerLemmas.{Still-not_Rose, SinkRose-at, SinksStill-not_SinkRose, Ends-passed, Cut-nil}
 use Rattle.outside_io.proofs.MomentLemmas.{EndsAt-answer, EndsAt-cut, CutAt-parts}
 use Rattle.command_words.specs.Commands.{read_of}
-use Rattle.ufork_program.specs.Answer.{word_at}
-use Rattle.ufork_program.specs.Request.{setup_of, parts_shown, course_of, NamesNoSource, NamesShown, NamesNoImage, NamesNoSchedule, NamesGuest, NamesTooMany, ReadsInput, HasLongInput, IsReadAt, HasFilesCause}
+use Rattle.machine_types.specs.declared.config.Outcome.{Outcome}
+use Rattle.machine_types.specs.declared.config.Outcome.TheVariants.{Running, Done, Stuck}
+use Rattle.machine.specs.Readiness.{outcome_of}
+use Rattle.ufork_program.specs.Answer.{word_at, refused}
+use Rattle.ufork_program.specs.Request.{setup_of, parts_shown, course_of, NamesNoSource, NamesShown, NamesNoImage, NamesNoSchedule, NamesGuest, NamesTooMany, ReadsInput, HasLongInput, IsReadAt, HasFilesCause, TookSome}
 use Rattle.ufork_program.specs.Headline.{Call, Left, WentWhole, WasCut, OfSources, OfCourse, WantedMemory, HasFault, TellsOfWords, FileFailed, TellsOfFile, LineCut, InputBroke}
 use Rattle.ufork_program.specs.Headline.{TellsOfInput, InputLineCut, CourseCut, Ran, Showed, TellsOfSource, TellsOfImage, TellsOfSchedule, TellsOfLength, TellsOfFrames, statuses, Promises, Went}
 use Rattle.ufork_program.specs.declared.request.Guest.{Guest}
@@ -16,9 +19,9 @@ use Rattle.ufork_program.specs.declared.request.Request.{Request}
 use Rattle.ufork_program.specs.declared.request.Request.TheVariants.{Refused, NoMemory, Run, Show}
 use Rattle.ufork_program.specs.declared.request.CommandRefusal.TheVariants.{Usage, CannotRead, NoImage, NoSchedule, InputFailed, InputTooLong, NoFrames, NoSource}
 use Rattle.ufork_program.proofs.CourseLemmas.{WentBy, went_by, request-told, course-told, has_room, is_usage_or_command}
-use Rattle.ufork_program.proofs.EndingLemmas.{Ending, words_end, file_end, image_end, schedule_end, input_end, length_end, frames_end, source_end, memory_end, done_end, stopped_end}
-use Rattle.ufork_program.proofs.EndingLemmas.{status_at, same_ending, not_fault_at, known_at, run_ending, run_ending-neither, end_of, ending_of, ending_of-status, course_of-not_fault}
-use Rattle.ufork_program.proofs.CutLemmas.{files_kept_unless, unbroken_unless, guest_reads, course_cut}
+use Rattle.ufork_program.proofs.EndingLemmas.{Ending, words_end, file_end, image_end, schedule_end, input_end, length_end, frames_end, source_end, memory_end, done_end, stopped_end, stuck_end}
+use Rattle.ufork_program.proofs.EndingLemmas.{status_at, same_ending, not_fault_at, known_at, run_ending, run_ending-none, end_of, ending_of, ending_of-status, course_of-not_fault}
+use Rattle.ufork_program.proofs.CutLemmas.{files_kept_unless, unbroken_unless, course_cut}
 
 -- words with a fault are no command
 fault_is_none : (c : Call) (place : ℕ) → HasFault c place → IsOk (read_of c.words) → ⊥
@@ -52,24 +55,37 @@ module _ (c : Call) where
     word = refl;
     read = request-told c (Refused (CannotRead index)) (λ sources. IsReadAt c.words sources.files index) by by.comes.is;
     last = by.files_cause.1;
-    unasked = by.input_cause;
+    unasked = by.input_after;
   }
 
   -- the input that failed is one that the words ask for
   broke : WentBy c (Refused InputFailed) → InputBroke c
-  broke by = record { read = request-told c (Refused InputFailed) (λ sources. ReadsInput c.words sources.files) by by.comes.is; took = by.input_cause; kept = by.files_cause }
+  broke by = record { read = request-told c (Refused InputFailed) (λ sources. ReadsInput c.words sources.files) by by.comes.is; took = by.input_after; kept = by.files_cause }
 
   -- a guest was run whole
-  ran_by : (live : Bool) (guest : Guest) → (end_of guest).live ≡ live → WentBy c (Run guest) → WentWhole c (course_of c.words (Run guest)) → Ran live c
-  ran_by live guest live_is by w = record {
+  ran_by : (outcome : Outcome) (guest : Guest) → outcome_of (end_of guest) ≡ outcome → WentBy c (Run guest) → WentWhole c (course_of c.words (Run guest)) → Ran outcome c
+  ran_by outcome guest outcome_is by w = record {
     setup = setup_of guest;
     named = request-told c (Run guest) (λ sources. NamesGuest c.words sources (setup_of guest)) by by.comes.is;
     room = has_room guest by.usable;
-    live_is = live_is;
+    outcome_is = outcome_is;
     written = w.written;
     left = w.left;
-    read = by.input_cause;
+    read = by.input_after;
   }
+
+  -- the input is as it was, unless it is read
+  abbrev IsKept : Type 0
+  IsKept = (c.new.input ≡ c.old.input) ⊎ OfSources c (λ sources. ReadsInput c.words sources.files)
+
+  -- memory was wanted before the input was read, or after it was read to its end
+  wanted_by : WentBy c NoMemory → IsKept → WentWhole c (refused memory_wanted) → WantedMemory c
+  wanted_by by kept w = record { whole = w; input = input by.input_after kept }
+    where
+      input : (c.new.input ≡ c.old.input) ⊎ TookSome c.old.input c.new.input → IsKept → (c.new.input ≡ c.old.input) ⊎ (TookSome c.old.input c.new.input × OfSources c (λ sources. ReadsInput c.words sources.files))
+      input (inl same) kept = inl same
+      input (inr took) (inl same) = inl same
+      input (inr took) (inr reads) = inr (took, reads)
 
   -- what each ending tells
   Tells : Ending → Type 0
@@ -82,46 +98,48 @@ module _ (c : Call) where
   Tells frames_end = TellsOfFrames c
   Tells source_end = TellsOfSource c
   Tells memory_end = WantedMemory c
-  Tells done_end = Ran false c ⊎ Showed c
-  Tells stopped_end = Ran true c
+  Tells done_end = Ran Done c ⊎ Showed c
+  Tells stopped_end = Ran Running c
+  Tells stuck_end = Ran Stuck c
 
   -- the ending of a run
-  ran_as : (live : Bool) (guest : Guest) → (end_of guest).live ≡ live → WentBy c (Run guest) → WentWhole c (course_of c.words (Run guest)) → Tells (run_ending live)
+  ran_as : (outcome : Outcome) (guest : Guest) → outcome_of (end_of guest) ≡ outcome → WentBy c (Run guest) → WentWhole c (course_of c.words (Run guest)) → Tells (run_ending outcome)
   unfolding Tells
-  ran_as true guest live_is by w = ran_by true guest live_is by w
-  ran_as false guest live_is by w = inl (ran_by false guest live_is by w)
+  ran_as Running guest outcome_is by w = ran_by Running guest outcome_is by w
+  ran_as Stuck guest outcome_is by w = ran_by Stuck guest outcome_is by w
+  ran_as Done guest outcome_is by w = inl (ran_by Done guest outcome_is by w)
 
   -- and of each request
-  tells_by : (request : Request) → WentBy c request → WentWhole c (course_of c.words request) → Tells (ending_of request)
+  tells_by : (request : Request) → WentBy c request → IsKept → WentWhole c (course_of c.words request) → Tells (ending_of request)
   unfolding Tells
-  tells_by (Refused (Usage place)) by w = record { place = place; fault = by.comes.is; whole = w }
-  tells_by (Refused (CannotRead index)) by w = record { name = word_at c.words index; failed = failed_at index by; whole = w }
-  tells_by (Refused (NoImage fault)) by w =
+  tells_by (Refused (Usage place)) by kept w = record { place = place; fault = by.comes.is; whole = w }
+  tells_by (Refused (CannotRead index)) by kept w = record { name = word_at c.words index; failed = failed_at index by; whole = w }
+  tells_by (Refused (NoImage fault)) by kept w =
       record { fault = fault; named = request-told c (Refused (NoImage fault)) (λ sources. NamesNoImage c.words sources.files fault) by by.comes.is; whole = w }
-  tells_by (Refused (NoSchedule line)) by w =
+  tells_by (Refused (NoSchedule line)) by kept w =
       record { line = line; named = request-told c (Refused (NoSchedule line)) (λ sources. NamesNoSchedule c.words sources.files line) by by.comes.is; whole = w }
-  tells_by (Refused InputFailed) by w = record { broke = broke by; whole = w }
-  tells_by (Refused InputTooLong) by w = record { named = request-told c (Refused InputTooLong) (HasLongInput c.words) by by.comes.is; took = by.input_cause; whole = w }
-  tells_by (Refused (NoFrames pages frames)) by w = record {
+  tells_by (Refused InputFailed) by kept w = record { broke = broke by; whole = w }
+  tells_by (Refused InputTooLong) by kept w = record { named = request-told c (Refused InputTooLong) (HasLongInput c.words) by by.comes.is; took = by.input_after; whole = w }
+  tells_by (Refused (NoFrames pages frames)) by kept w = record {
     pages = pages;
     frames = frames;
     named = request-told c (Refused (NoFrames pages frames)) (λ sources. NamesTooMany c.words sources pages frames) by by.comes.is;
-    read = by.input_cause;
+    read = by.input_after;
     whole = w;
   }
-  tells_by (Refused (NoSource fault)) by w = record {
+  tells_by (Refused (NoSource fault)) by kept w = record {
     fault = fault;
     named = request-told c (Refused (NoSource fault)) (λ sources. NamesNoSource c.words sources.files fault) by by.comes.is;
     whole = w;
-    unasked = by.input_cause;
+    unasked = by.input_after;
   }
-  tells_by NoMemory by w = record { whole = w; unasked = by.input_cause }
-  tells_by (Run guest) by w = ran_as (end_of guest).live guest refl by w
-  tells_by (Show parts) by w = inr (record {
+  tells_by NoMemory by kept w = wanted_by by kept w
+  tells_by (Run guest) by kept w = ran_as (outcome_of (end_of guest)) guest refl by w
+  tells_by (Show parts) by kept w = inr (record {
     parts = parts_shown parts;
     named = request-told c (Show parts) (λ sources. NamesShown c.words sources.files (parts_shown parts)) by by.comes.is;
     whole = w;
-    unasked = by.input_cause;
+    unasked = by.input_after;
   })
 
   -- the ending of a call is that of its status
@@ -132,22 +150,22 @@ module _ (c : Call) where
   tells : (e : Ending) → Went c → c.status ≡ status_at e → Tells e
   tells e h at =
       let w = went_whole h (λ fault. not_fault_at e (sym at ∙ fault)) in
-      subst Tells (ending_is e h.request w at) (tells_by h.request (went_by c h) w)
+      subst Tells (ending_is e h.request w at) (tells_by h.request (went_by c h) h.input_kept w)
 
   -- all of the course was written, memory was wanted, or a file or the input failed
   abbrev IsWhole : Type 0
   IsWhole = OfCourse c (WentWhole c) ⊎ (WantedMemory c ⊎ (TellsOfFile c ⊎ TellsOfInput c))
 
   -- so it is by the request
-  whole_by : (request : Request) → WentBy c request → WentWhole c (course_of c.words request) → IsWhole
-  whole_by (Refused (CannotRead index)) by w = inr (inr (inl (record { name = word_at c.words index; failed = failed_at index by; whole = w })))
-  whole_by (Refused InputFailed) by w = inr (inr (inr (record { broke = broke by; whole = w })))
-  whole_by NoMemory by w = inr (inl (record { whole = w; unasked = by.input_cause }))
-  whole_by request by w = inl (course-told c request (WentWhole c) tt by w)
+  whole_by : (request : Request) → WentBy c request → IsKept → WentWhole c (course_of c.words request) → IsWhole
+  whole_by (Refused (CannotRead index)) by kept w = inr (inr (inl (record { name = word_at c.words index; failed = failed_at index by; whole = w })))
+  whole_by (Refused InputFailed) by kept w = inr (inr (inr (record { broke = broke by; whole = w })))
+  whole_by NoMemory by kept w = inr (inl (wanted_by by kept w))
+  whole_by request by kept w = inl (course-told c request (WentWhole c) tt by w)
 
   -- where no write failed
   whole : Went c → c.status ≢ write_fault → IsWhole
-  whole h other = whole_by h.request (went_by c h) (went_whole h other)
+  whole h other = whole_by h.request (went_by c h) h.input_kept (went_whole h other)
 
   -- and where no count rose, no file failed, nor did the input
   answered : Went c → NoneRose c.old c.new → OfCourse c (WentWhole c) ⊎ WantedMemory c
@@ -223,38 +241,21 @@ module _ (c : Call) where
 
   -- where the count of the input rose, it is that of the input
   input_passed : Went c → CountsBelowLast c.old → SinksStill c.old c.new → Rose c.old.input.faults c.new.input.faults → c.status ≡ 6
-  input_passed h below still rose = elim (unbroken_unless c.old.input c.new.input h.request h.input_cause) [
+  input_passed h below still rose = elim (unbroken_unless c.old.input c.new.input h.request h.input_after) [
     | inl kept ↦ absurd (omega (arith, below.input))
     | inr found ↦ status_by h (Refused InputFailed) found (not_fault h still)
   ]
 
-  -- the input is as it was, unless it is read
-  abbrev IsKept : Type 0
-  IsKept = (c.new.input ≡ c.old.input) ⊎ OfSources c (λ sources. ReadsInput c.words sources.files)
-
-  -- it is read by the sources of the request
-  read_by : (request : Request) (by : WentBy c request) → ReadsInput c.words by.comes.sources.files → IsKept
-  read_by request by reads = inr (request-told c request (λ sources. ReadsInput c.words sources.files) by reads)
-
-  -- so it is for each request
-  input_kept_by : (request : Request) → WentBy c request → IsKept
-  input_kept_by (Refused InputFailed) by = read_by (Refused InputFailed) by by.comes.is
-  input_kept_by (Refused InputTooLong) by = read_by (Refused InputTooLong) by by.comes.is.reads
-  input_kept_by (Refused (NoFrames pages frames)) by =
-      read_by (Refused (NoFrames pages frames)) by (guest_reads c.words by.comes.sources by.comes.is.setup by.comes.is.names)
-  input_kept_by (Run guest) by = read_by (Run guest) by (guest_reads c.words by.comes.sources (setup_of guest) by.comes.is)
-  input_kept_by request by = inl by.input_cause
-
   -- where nothing was run, the board is left as it was
-  not_run_by : (request : Request) → WentWhole c (course_of c.words request) → c.status ≢ 0 → c.status ≢ 8 → Left c None
-  not_run_by (Refused refusal) w done stopped = w.left
-  not_run_by NoMemory w done stopped = w.left
-  not_run_by (Show parts) w done stopped = w.left
-  not_run_by (Run guest) w done stopped = absurd (run_ending-neither (end_of guest).live c.status w.status done stopped)
+  not_run_by : (request : Request) → WentWhole c (course_of c.words request) → c.status ≢ 0 → c.status ≢ 8 → c.status ≢ 9 → Left c None
+  not_run_by (Refused refusal) w done stopped stuck = w.left
+  not_run_by NoMemory w done stopped stuck = w.left
+  not_run_by (Show parts) w done stopped stuck = w.left
+  not_run_by (Run guest) w done stopped stuck = absurd (run_ending-none (outcome_of (end_of guest)) c.status w.status done stopped stuck)
 
   -- so it is at the end of the call
-  not_run : Went c → c.status ≢ write_fault → c.status ≢ 0 → c.status ≢ 8 → Left c None
-  not_run h other done stopped = not_run_by h.request (went_whole h other) done stopped
+  not_run : Went c → c.status ≢ write_fault → c.status ≢ 0 → c.status ≢ 8 → c.status ≢ 9 → Left c None
+  not_run h other done stopped stuck = not_run_by h.request (went_whole h other) done stopped stuck
 
   -- the status is among those that there are
   known : Went c → Contains statuses c.status
@@ -273,6 +274,7 @@ module _ (c : Call) where
     cut_short = cut_short h;
     done = tells done_end h;
     stopped = tells stopped_end h;
+    stuck = tells stuck_end h;
     usage = tells words_end h;
     no_command = no_command h;
     file_failed = tells file_end h;
@@ -293,5 +295,5 @@ module _ (c : Call) where
     unasked = unasked h;
     contents = h.contents_kept;
     files_kept = files_kept h;
-    input_kept = input_kept_by h.request (went_by c h);
+    input_kept = h.input_kept;
   }

@@ -15,21 +15,30 @@ use Rattle.stores.specs.declared.board.Board.{Board}
 use Rattle.stores.specs.Boards.{Stands, IsEmpty}
 use Rattle.full_space.specs.declared.space.FullSpace.{FullSpace}
 use Rattle.full_space.specs.Full.{FullStands}
-use Rattle.ufork_program.specs.Machine.{Machine}
-use Rattle.ufork_program.specs.Kernel.{IsLeftIn}
+use Rattle.machine.specs.Machines.{Machine}
+use Rattle.ufork_program.specs.Run.{IsLeftIn}
 use Rattle.ufork_program.specs.Answer.{shown_answer, refused}
 use Rattle.ufork_program.specs.Headline.{IsLeftOn}
-use Rattle.ufork_program.specs.declared.kernel.Kernel.{Kernel}
+use Rattle.kernel_loop.specs.declared.kernel.Kernel.{Kernel}
+use Rattle.stores.specs.declared.space.Stores.{Ghosts}
 
 -- a board that stands for what a kernel's space did stands for the machine that stood in the kernel
-pub left_on : (k : Kernel FullSpace) (given left : Board) → ((c : Content) → FullStands k.space c → Stands left c)
+pub left_on : {g : Ghosts FullSpace} (k : Kernel FullSpace g) (given left : Board) → ((c : Content) → FullStands k.core.space c → Stands left c)
     → (t : Option Machine) → IsLeftIn FullStands k t → IsLeftOn given left t
 left_on k given left stands None h = absurd h
 left_on k given left stands (Some m) h = stands m.content h.space
 
+-- a board for whatever a space stood for
+pub space_left : (space given : FullSpace) (left : Board) → given ≡ space → ((c : Content) → FullStands given c → Stands left c) → (c : Content) → FullStands space c → Stands left c
+space_left space given left is h = rw is at h
+
 -- the frames of a board of another size
 pub size_set : (old new : Board) (n : ℕ) → new ≡ record old { pool = record old.pool { size = n } } → new.pool.size ≡ n
 size_set old new n e = ap (λ b. b.pool.size) e
+
+-- a board whose number of frames was set, and set again to what it was
+pub size_back : (old new : Board) (n : ℕ) → new ≡ record (record old { pool = record old.pool { size = n } }) { pool = record (record old { pool = record old.pool { size = n } }).pool { size = old.pool.size } } → new ≡ old
+size_back old new n e = e
 
 -- what is answered while no machine stands leaves the board as it was
 pub refused_ends : {E : Type 0} (answer : Answer) (a b : Console) (r : Result ℕ E) (status : ℕ) (given : Board) → IsEmpty given

@@ -8,16 +8,11 @@ pub mod ListingLemmas
 pub mod ToolSayings
 pub mod EndingLemmas
 pub mod CutLemmas
+pub mod InputsKept
 pub mod HeadlineLemmas
-pub mod CallLemmas
-pub mod SoundSteps
-pub mod BootLemmas
-pub mod KernelLemmas
 pub mod RunLemmas
 pub mod LeftLemmas
 pub mod CourseLemmas
-pub mod StepLawLemmas
-pub mod BeginLemmas
 pub mod SplitLemmas
 pub mod StepMoments
 pub mod TellingLemmas

@@ -6,7 +6,7 @@ use Rattle.std.proofs.KnownBytes.{Consumes-whole}
 use Rattle.outside_io.specs.States.{SourceState}
 use Rattle.elf_loader.specs.Loaded.{image_of}
 use Rattle.command_words.specs.Commands.{read_of}
-use Rattle.ufork_program.specs.Machine.{Setup}
+use Rattle.machine_steps.specs.Runs.{Setup}
 use Rattle.ufork_program.specs.Input.{TookAll}
 use Rattle.ufork_program.specs.Answer.{Files, Sources, named_by}
 use Rattle.ufork_program.specs.Request.{ComesOf, IsRequestOf, NamesGuest, ReadsInput, setup_of}

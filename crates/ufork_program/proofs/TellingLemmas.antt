@@ -1,5 +1,5 @@
 -- What follows from a promise where the contents of files and the bytes of the input are told.
-use Rattle.std.proofs.Common.{◌≡◌, ℕ, ◌⊎◌, inl, inr, Bool, false, List, [], ◌++◌, Option, Some, None, Ok, IsSomeAnd, refl, sym, ap, ◌∙◌, subst}
+use Rattle.std.proofs.Common.{◌≡◌, ℕ, ◌⊎◌, inl, inr, List, [], ◌++◌, Option, Some, None, Ok, IsSomeAnd, refl, sym, ap, ◌∙◌, subst}
 use Rattle.std.specs.Io.KnownBytes.{Consumes, IsAtEnd}
 use Rattle.outside_io.specs.States.{NoneRose}
 use Rattle.outside_io.specs.Answers.{memory_wanted}
@@ -11,7 +11,9 @@ use Rattle.command_words.specs.declared.words.Options.{Options}
 use Rattle.command_words.specs.declared.words.Command.{Command}
 use Rattle.command_words.specs.declared.words.Command.TheVariants as command
 use Rattle.command_words.specs.Commands.{read_of}
-use Rattle.ufork_program.specs.Machine.{Machine}
+use Rattle.machine_types.specs.declared.config.Outcome.{Outcome}
+use Rattle.machine_types.specs.declared.config.Outcome.TheVariants.{Done}
+use Rattle.machine.specs.Machines.{Machine}
 use Rattle.ufork_program.specs.Input.{Took, TookAll}
 use Rattle.ufork_program.specs.Request.{file_index, NamesImage, IsScheduleOf, NamesShown, ReadsInput, NamesTooMany}
 use Rattle.ufork_program.specs.Answer.{Files, named_by, Sources, course}
@@ -57,12 +59,12 @@ module _ (call : Call) (sources : Sources) (told : Tells call sources) where
   read-told bytes h = none-left bytes sources.input call.new.input.left (rw told.input_told at h.took) h.end
 
   -- What was run is what is told.
-  pub ran-told : (live : Bool) → Ran live call → RanThem live call sources
-  ran-told live h = record {
+  pub ran-told : (outcome : Outcome) → Ran outcome call → RanThem outcome call sources
+  ran-told outcome h = record {
     setup = h.setup;
     named = told-holds call sources _ told h.named;
     room = h.room;
-    live_is = h.live_is;
+    outcome_is = h.outcome_is;
     written = h.written;
     stands = h.left;
     end = read-told h.setup.input h.read;
@@ -168,8 +170,8 @@ module _ (call : Call) (sources : Sources) (told : Tells call sources) where
   }
 
   -- With 0 it was that, or a process was run to its end.
-  pub done-told : Ran false call ⊎ Showed call → RanThem false call sources ⊎ ShownThere call sources
-  done-told (inl h) = inl (ran-told false h)
+  pub done-told : Ran Done call ⊎ Showed call → RanThem Done call sources ⊎ ShownThere call sources
+  done-told (inl h) = inl (ran-told Done h)
   done-told (inr h) = inr (shown-told h)
 
 -- What the words name by the contents that are told is shown where no count rose, or memory was wanted.

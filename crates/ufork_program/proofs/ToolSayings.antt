@@ -1,5 +1,7 @@
 -- A command that runs nothing leaves the input and the board as they were.
-use Rattle.std.proofs.Common.{◌≡◌, ◌∙◌, refl, ap, ℕ, Bool, true, false, List, Option, Some, None, Result, Ok, Err, inl, inr, ◌⊎◌, subst}
+use Rattle.std.proofs.Common.{◌≡◌, ◌∙◌, refl, ap, ℕ, List, Option, Some, None, Result, Ok, Err, inl, inr, ◌⊎◌, subst}
+use Rattle.machine_types.specs.declared.config.Outcome.{Outcome}
+use Rattle.machine_types.specs.declared.config.Outcome.TheVariants.{Running, Done, Stuck}
 use Rattle.std.proofs.lemmas.Bool.{cases_eq}
 use Rattle.cap_format.specs.declared.image.ImageFault.{ImageFault}
 use Rattle.cap_format.specs.Image.{fault_of}
@@ -63,8 +65,8 @@ module _ (call : Call) (tool : Command) (index : ℕ) (promises : Promises call)
   input-left = elim promises.input_kept [ inl kept ↦ kept | inr reads ↦ absurd (runs-nothing call.words tool index command which reads.sources reads.holds) ]
 
   -- and nothing was run
-  never-ran : (live : Bool) → Ran live call → ⊥
-  never-ran live h = runs-nothing call.words tool index command which h.named.sources (let n = h.named.holds in record { config = h.setup.config; schedule = h.setup.schedule; file = h.setup.file; names = n.names })
+  never-ran : (outcome : Outcome) → Ran outcome call → ⊥
+  never-ran outcome h = runs-nothing call.words tool index command which h.named.sources (let n = h.named.holds in record { config = h.setup.config; schedule = h.setup.schedule; file = h.setup.file; names = n.names })
 
   -- where a part was cut no machine stood
   cut-left : CourseCut call ⊎ (LineCut call ⊎ InputLineCut call) → Left call None
@@ -74,8 +76,8 @@ module _ (call : Call) (tool : Command) (index : ℕ) (promises : Promises call)
   cut-left (inr h) = line-left call h
 
   -- nor where all was written
-  done-left : Ran false call ⊎ Showed call → Left call None
-  done-left (inl h) = absurd (never-ran false h)
+  done-left : Ran Done call ⊎ Showed call → Left call None
+  done-left (inl h) = absurd (never-ran Done h)
   done-left (inr h) = h.whole.left
 
   -- so the board is left as it was
@@ -85,8 +87,11 @@ module _ (call : Call) (tool : Command) (index : ℕ) (promises : Promises call)
     | inr other ↦ elim (cases_eq call.status 0) [
       | inl done ↦ done-left (promises.done done)
       | inr some ↦ elim (cases_eq call.status 8) [
-        | inl stopped ↦ absurd (never-ran true (promises.stopped stopped))
-        | inr neither ↦ promises.not_run other some neither
+        | inl stopped ↦ absurd (never-ran Running (promises.stopped stopped))
+        | inr neither ↦ elim (cases_eq call.status 9) [
+          | inl stuck ↦ absurd (never-ran Stuck (promises.stuck stuck))
+          | inr none ↦ promises.not_run other some neither none
+        ]
       ]
     ]
   ]

@@ -18,7 +18,8 @@ use Rattle.command_words.specs.Commands.{read_of}
 use Rattle.run_texts.specs.Schedules.{schedule_of}
 use Rattle.ufork_program.specs.Numbers.{most_input}
 use Rattle.ufork_program.specs.Lines.{usage_line, cannot_read_line, image_refused_line, schedule_refused_line, input_failed_line, input_too_long_line, frames_lacked_line, source_refused_line}
-use Rattle.ufork_program.specs.Machine.{Machine, Setup}
+use Rattle.machine.specs.Machines.{Machine}
+use Rattle.machine_steps.specs.Runs.{Setup}
 use Rattle.ufork_program.specs.Run.{run_course}
 use Rattle.ufork_program.specs.Tools.{file_parts, instr_parts, summary_parts}
 

@@ -1,5 +1,5 @@
 -- What follows from what a call promises where a part was cut: which part it is, and which board comes back.
-use Rattle.std.specs.Prelude.{◌≡◌, ℕ, ◌+◌, ◌<◌, ◌⊎◌, true, List, [], ◌∷◌, ◌++◌, take, Some}
+use Rattle.std.specs.Prelude.{◌≡◌, ℕ, ◌+◌, ◌<◌, ◌⊎◌, List, [], ◌∷◌, ◌++◌, take, Some}
 use Rattle.outside_io.specs.Faults.{Rose}
 use Rattle.outside_io.specs.States.{CountsBelowLast}
 use Rattle.outside_io.specs.Parts.{Part, err_part, HasBytes, RoseAt, front_of, console_of, Written}
@@ -7,9 +7,13 @@ use Rattle.outside_io.specs.Answers.{Answer, refusal, write_fault}
 use Rattle.outside_io.specs.Moments.{parts_of}
 use Rattle.stores.specs.Boards.{IsEmpty, Stands}
 use Rattle.ufork_program.specs.Lines.{cannot_read_line, input_failed_line}
-use Rattle.ufork_program.specs.Machine.{Machine, Setup, start}
-use Rattle.ufork_program.specs.Steps.{step_parts}
-use Rattle.ufork_program.specs.Run.{run_moments, run_end, last_line, run_course, state_after, moments_of}
+use Rattle.machine.specs.Machines.{Machine}
+use Rattle.machine_steps.specs.Runs.{Setup, start}
+use Rattle.machine_types.specs.declared.config.Outcome.TheVariants.{Running}
+use Rattle.machine.specs.Readiness.{outcome_of}
+use Rattle.machine_steps.specs.Steps.{state}
+use Rattle.ufork_program.specs.declared.run.Show.TheVariants.{Console}
+use Rattle.ufork_program.specs.Run.{step_parts, run_moments, run_end, last_line, run_course, moments_of}
 use Rattle.ufork_program.specs.Answer.{Sources, course, refused, shown}
 use Rattle.ufork_program.specs.Request.{NamesGuest, HasLongInput}
 use Rattle.ufork_program.specs.Headline.{Call, Promises}
@@ -20,22 +24,22 @@ use Rattle.ufork_program.specs.Telling.{Tells, BrokeThere, TookThere}
 pub record CutInStep (call : Call) (m : Machine) (limit : ℕ) : Type 0 where
   pub steps : ℕ
   pub within : steps < limit
-  pub live : (state_after m steps).live ≡ true
+  pub running : outcome_of (state m steps) ≡ Running
   pub before : List Part
   pub part : Part
   pub after : List Part
-  pub parts : step_parts (state_after m steps) ≡ before ++ part ∷ after
+  pub parts : step_parts Console (state m steps) ≡ before ++ part ∷ after
   pub some : HasBytes part
   pub rose : RoseAt part (console_of call.old) (console_of call.new)
   pub count : ℕ
-  pub written : Written ((parts_of (moments_of m steps) ++ before) ++ front_of count part ∷ []) (console_of call.old) (console_of call.new)
-  pub stands : Stands call.left (state_after m (steps + 1)).content
+  pub written : Written ((parts_of (moments_of Console m steps) ++ before) ++ front_of count part ∷ []) (console_of call.old) (console_of call.new)
+  pub stands : Stands call.left (state m (steps + 1)).content
 
 -- The last line was cut: all parts of the steps are written, and a prefix of the line, and the count of the errors rose. The board stands for the machine at the end.
 pub record CutAtLastLine (call : Call) (m : Machine) (limit : ℕ) : Type 0 where
   pub rose : Rose call.old.err.faults call.new.err.faults
   pub count : ℕ
-  pub written : Written (parts_of (run_moments m limit) ++ front_of count (err_part (last_line (run_end m limit))) ∷ []) (console_of call.old) (console_of call.new)
+  pub written : Written (parts_of (run_moments Console m limit) ++ front_of count (err_part (last_line (run_end m limit))) ∷ []) (console_of call.old) (console_of call.new)
   pub stands : Stands call.left (run_end m limit).content
 
 -- Of the line of a refusal so many bytes are written, and nothing else.

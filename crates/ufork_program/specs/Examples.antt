@@ -2,13 +2,10 @@
 use Rattle.std.specs.Prelude.{◌≡◌, flat_map, [], ◌∷◌, ◌++◌, codes}
 use Rattle.cap_format.specs.declared.image.ImageReason.TheVariants as image
 use Rattle.asm_text.specs.declared.source.SourceReason.TheVariants as source
-use Rattle.ufork_program.specs.Lines.{exit_line, done_line, stopped_line, usage_line, cannot_read_line, reason_text, image_refused_line, source_reason_text, source_refused_line, schedule_refused_line, input_failed_line, input_too_long_line, frames_lacked_line, image_line}
+use Rattle.ufork_program.specs.Lines.{usage_line, cannot_read_line, reason_text, image_refused_line, source_reason_text, source_refused_line, schedule_refused_line, input_failed_line, input_too_long_line, frames_lacked_line, image_line}
 
 -- Each line is what was worked out.
 pub record WorkedLinesHold : Type 0 where
-  pub exit : exit_line 1 268 ≡ codes "exit 1 268\n"
-  pub done : done_line 8 ≡ codes "done 8\n"
-  pub stopped : stopped_line 20000000 ≡ codes "stopped 20000000\n"
   pub usage : usage_line 3 ≡ codes "ufork: usage: word 3\n"
   pub cannot_read : cannot_read_line (codes "a.img") ≡ codes "ufork: cannot read a.img\n"
   pub image_refused : image_refused_line (record { reason = image.Overlap; place = 136 }) ≡ codes "ufork: image refused: Overlap at 136\n"

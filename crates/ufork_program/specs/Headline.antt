@@ -1,9 +1,9 @@
 -- What a call of the program promises.
-use Rattle.std.specs.Prelude.{◌≡◌, ◌≢◌, ◌≤◌, ℕ, ◌⊎◌, Bool, true, false, List, [], ◌∷◌, Contains, Some, None, Err}
+use Rattle.std.specs.Prelude.{◌≡◌, ◌≢◌, ◌≤◌, ℕ, ◌⊎◌, List, [], ◌∷◌, Contains, Some, None, Err}
 use Rattle.std.specs.declared.option.Option.{Option}
 use Rattle.outside_io.specs.Faults.{Rose}
 use Rattle.outside_io.specs.States.{Outside, NoneRose, SinksStill, SinkRose, CountsBelowLast}
-use Rattle.outside_io.specs.Parts.{Part, console_of, Written, Quiet, Later}
+use Rattle.outside_io.specs.Parts.{Part, Console, console_of, Written, Quiet, Later}
 use Rattle.outside_io.specs.Answers.{memory_wanted, write_fault}
 use Rattle.outside_io.specs.Moments.{Course, parts_of, CutAt, EndsAt}
 use Rattle.stores.specs.declared.board.Board.{Board}
@@ -12,12 +12,17 @@ use Rattle.cap_format.specs.declared.image.ImageFault.{ImageFault}
 use Rattle.asm_text.specs.declared.source.SourceFault.{SourceFault}
 use Rattle.elf_loader.specs.Loaded.{image_of}
 use Rattle.command_words.specs.Commands.{read_of}
-use Rattle.ufork_program.specs.Machine.{Machine, Setup, start}
+use Rattle.machine_types.specs.declared.config.Outcome.{Outcome}
+use Rattle.machine_types.specs.declared.config.Outcome.TheVariants.{Running, Done, Stuck}
+use Rattle.machine.specs.Machines.{Machine}
+use Rattle.machine.specs.Readiness.{outcome_of}
+use Rattle.machine_steps.specs.Runs.{Setup, start}
 use Rattle.ufork_program.specs.Run.{run_course, run_end}
 use Rattle.ufork_program.specs.Input.{TookAll, TookTooMany, TookUntilFault}
 use Rattle.ufork_program.specs.Answer.{word_at, Sources, course, usage, cannot_read, image_refused, schedule_refused, input_failed, input_too_long, frames_lacked, source_refused, refused, shown}
-use Rattle.ufork_program.specs.Request.{course_of, NamesNoImage, NamesNoSchedule, NamesGuest, NamesTooMany, NamesNoSource, NamesShown, ReadsInput, HasLongInput, IsReadAt, IsUsable, AreTold, ComesOf, HasFilesCause, TookSome, HasInputCause}
+use Rattle.ufork_program.specs.Request.{course_of, NamesNoImage, NamesNoSchedule, NamesGuest, NamesTooMany, NamesNoSource, NamesShown, ReadsInput, HasLongInput, IsReadAt, IsUsable, AreTold, ComesOf, HasFilesCause, TookSome, IsInputAfter}
 use Rattle.ufork_program.specs.declared.request.Request.{Request}
+use Rattle.ufork_program.specs.declared.request.Request.TheVariants as request
 
 -- A call of the program: its words, what stood outside before and after it, the board that it was handed and the one that it
 -- gives back, and the status.
@@ -67,10 +72,11 @@ pub record OfSources (call : Call) (P : Sources → Type 0) : Type 0 where
 abbrev pub OfCourse : Call → (Course (Option Machine) → Type 0) → Type 0
 OfCourse call P = OfSources call (λ sources. P (course call.words sources))
 
--- memory was wanted, nothing was written or run, and the input was not asked for
+-- Memory was wanted, and nothing was written or run. The input was not asked for; or, where the words name an image and a schedule, it was read to
+-- its end.
 pub record WantedMemory (call : Call) : Type 0 where
   pub whole : WentWhole call (refused memory_wanted)
-  pub unasked : call.new.input ≡ call.old.input
+  pub input : (call.new.input ≡ call.old.input) ⊎ (TookSome call.old.input call.new.input × OfSources call (λ sources. ReadsInput call.words sources.files))
 
 -- the words are no command, from this place on
 abbrev pub HasFault : Call → ℕ → Type 0
@@ -132,13 +138,13 @@ pub record CourseCut (call : Call) : Type 0 where
   pub unbroken : call.new.input.faults ≡ call.old.input.faults
   pub cut : OfSources call (CutWith call)
 
--- The words name an image and a schedule, which were run: the process is live after the configured steps, or it ended by then. Its parts
--- are written, the board stands for the machine there, and the input was read to its end.
-pub record Ran (live : Bool) (call : Call) : Type 0 where
+-- The words name an image and a schedule, which were run to the configured steps, or until the machine didn't run, and it stands so there. Its
+-- parts are written, the board stands for the machine there, and the input was read to its end.
+pub record Ran (outcome : Outcome) (call : Call) : Type 0 where
   pub setup : Setup
   pub named : OfSources call (λ sources. NamesGuest call.words sources setup)
   pub room : (image_of setup.file).pages ≤ setup.config.frames
-  pub live_is : (run_end (start setup) setup.config.steps).live ≡ live
+  pub outcome_is : outcome_of (run_end (start setup) setup.config.steps) ≡ outcome
   pub written : HasWritten call (run_course setup)
   pub left : Stands call.left (run_end (start setup) setup.config.steps).content
   pub read : TookAll setup.input call.old.input call.new.input
@@ -185,7 +191,7 @@ pub record TellsOfSource (call : Call) : Type 0 where
 
 -- the statuses that there are
 abbrev pub statuses : List ℕ
-statuses = 0 ∷ 2 ∷ 3 ∷ 4 ∷ 5 ∷ 6 ∷ write_fault ∷ 8 ∷ memory_wanted.status ∷ 11 ∷ 12 ∷ 13 ∷ []
+statuses = 0 ∷ 2 ∷ 3 ∷ 4 ∷ 5 ∷ 6 ∷ write_fault ∷ 8 ∷ 9 ∷ memory_wanted.status ∷ 11 ∷ 12 ∷ 13 ∷ []
 
 -- What the call promises.
 pub record Promises (call : Call) : Type 0 where
@@ -198,10 +204,11 @@ pub record Promises (call : Call) : Type 0 where
   -- of the moment: it stands for the machine after the step whose part was cut, or at the run's end where that was the last line,
   -- and it is empty where it was the line of a refusal. Where a file or the input had failed first, it was that line.
   pub cut_short : call.status ≡ write_fault → CourseCut call ⊎ (LineCut call ⊎ InputLineCut call)
-  -- 0 comes only where the process ended, or where something was shown of a file and nothing was run; and 8 only where the process is live
-  -- after the configured steps.
-  pub done : call.status ≡ 0 → Ran false call ⊎ Showed call
-  pub stopped : call.status ≡ 8 → Ran true call
+  -- 0 comes only where no process is live at the end of the run, or where something was shown of a file and nothing was run; 8 only where a live
+  -- process is ready after the configured steps; and 9 only where processes are live and none is ready.
+  pub done : call.status ≡ 0 → Ran Done call ⊎ Showed call
+  pub stopped : call.status ≡ 8 → Ran Running call
+  pub stuck : call.status ≡ 9 → Ran Stuck call
   -- 2 comes exactly where the words are no command, but for a failing sink, and names the place.
   pub usage : call.status ≡ 2 → TellsOfWords call
   pub no_command : (place : ℕ) → HasFault call place → call.status ≢ write_fault → call.status ≡ 2
@@ -228,7 +235,7 @@ pub record Promises (call : Call) : Type 0 where
   -- With 10 nothing was written.
   pub memory_wanted : call.status ≡ memory_wanted.status → WantedMemory call
   -- With every other status nothing was run, and the board is empty.
-  pub not_run : call.status ≢ write_fault → call.status ≢ 0 → call.status ≢ 8 → Left call None
+  pub not_run : call.status ≢ write_fault → call.status ≢ 0 → call.status ≢ 8 → call.status ≢ 9 → Left call None
   -- There are no further statuses.
   pub known : Contains statuses call.status
   -- No count of a sink falls. No file is asked for where the words are no command, and no content changes. Unless a file failed the
@@ -239,12 +246,22 @@ pub record Promises (call : Call) : Type 0 where
   pub files_kept : call.status ≢ write_fault → call.status ≢ 3 → call.new.files ≡ call.old.files
   pub input_kept : (call.new.input ≡ call.old.input) ⊎ OfSources call (λ sources. ReadsInput call.words sources.files)
 
+-- A run ended at its course, or there was no memory for the kernel, and nothing was written.
+abbrev pub IsRunOr : Course (Option Machine) → (Option Machine → Type 0) → Console → Console → ℕ → Type 0
+IsRunOr c stands old new status = EndsAt c stands old new status ⊎ EndsAt (refused memory_wanted) stands old new status
+
+-- A request was answered by its course; and that of a run, where there was no memory for the kernel, by want of memory.
+abbrev pub IsAnswered : List (List ℕ) → Request → (Option Machine → Type 0) → Console → Console → ℕ → Type 0
+IsAnswered words (request.Run guest) stands old new status = IsRunOr (course_of words (request.Run guest)) stands old new status
+IsAnswered words request stands old new status = EndsAt (course_of words request) stands old new status
+
 -- how a call went, from which all that it promises follows
 pub record Went (call : Call) : Type 0 where
   pub request : Request
   pub usable : IsUsable call.words request
   pub comes : ComesOf call.words call.old.files.contents call.old.input.left request
   pub files_cause : HasFilesCause call.words call.old.files call.new.files request
-  pub input_cause : HasInputCause call.old.input call.new.input request
+  pub input_after : IsInputAfter call.old.input call.new.input request
+  pub input_kept : (call.new.input ≡ call.old.input) ⊎ OfSources call (λ sources. ReadsInput call.words sources.files)
   pub contents_kept : call.new.files.contents ≡ call.old.files.contents
   pub ends : EndsAt (course_of call.words request) (Left call) (console_of call.old) (console_of call.new) call.status

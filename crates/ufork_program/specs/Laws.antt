@@ -1,12 +1,5 @@
--- What the calls come to, in numbers, and the courses that aren't runs: each is the contract of a function of this crate.
-use Rattle.std.specs.Prelude.{◌≡◌, ◌≢◌, ℕ, ◌+◌, ◌-◌, ◌*◌, ◌/◌, ◌^◌, ◌%◌, ◌⊎◌, ◌<◌, ◌≤◌, min, IsTrue, IsFalse, List, [], ◌∷◌, length, Some, None, Result, Ok, Err}
-use Rattle.cap_format.specs.declared.cap.Cap.{Cap}
-use Rattle.machine_types.specs.declared.touches.Note.{Note}
-use Rattle.machine_types.specs.declared.touches.NoFrame.{NoFrame}
-use Rattle.machine_types.specs.declared.touches.Access.TheVariants.{Read}
-use Rattle.machine_types.specs.Registers.{register}
-use Rattle.contents.specs.Content.{Content, CallOutcome}
-use Rattle.contents.specs.Transfers.{prepare_of, read_bytes_of}
+-- Laws of courses and listings.
+use Rattle.std.specs.Prelude.{◌≡◌, ℕ, ◌+◌, ◌*◌, ◌/◌, ◌%◌, ◌⊎◌, ◌<◌, ◌≤◌, List, [], ◌∷◌, length, Some, None, Ok, Err}
 use Rattle.cap_format.specs.declared.image.ImageFault.{ImageFault}
 use Rattle.machine_types.specs.declared.config.Config.{Config}
 use Rattle.cap_format.specs.FileNumbers.{u32_at}
@@ -23,52 +16,14 @@ use Rattle.std.specs.Prelude.{slice_index_or, slice_get, flat_map, codes}
 use Rattle.std.specs.declared.option.Option.{Option}
 use Rattle.cap_format.specs.Image.{IsImage, fault_of}
 use Rattle.run_texts.specs.Schedules.{schedule_of}
-use Rattle.ufork_program.specs.declared.calls.Called.{Called}
-use Rattle.ufork_program.specs.declared.calls.Called.TheVariants.{Answered, Writing, Ended}
-use Rattle.elf_loader.specs.Numbers.{process_region}
-use Rattle.ufork_program.specs.Machine.{Setup}
+use Rattle.machine_steps.specs.Runs.{Setup}
 use Rattle.ufork_program.specs.Lines.{usage_line, cannot_read_line, image_refused_line, schedule_refused_line, input_too_long_line, frames_lacked_line, source_refused_line, image_line}
 use Rattle.ufork_program.specs.Tools.{segment_parts, instr_parts}
 use Rattle.outside_io.specs.Answers.{refusal}
 use Rattle.outside_io.specs.Parts.{Part, out_part, err_part}
-use Rattle.ufork_program.specs.Calls.{CallEffect, answers, integer, place_of, is_readable, call_effect}
 use Rattle.ufork_program.specs.Run.{run_course}
 use Rattle.ufork_program.specs.Answer.{word_at, named_by, Sources, course, refused, shown}
 use Rattle.ufork_program.specs.Request.{NamesImage, NamesNoImage, NamesNoSchedule, NamesFiles, NamesTooMany}
-
--- the touches of the next transfer of a write, of so many bytes
-abbrev pub prepared : List Cap → Content → ℕ → ℕ → CallOutcome (Result (List Note) NoFrame)
-prepared r c done size = prepare_of c process_region (place_of (register r 11) + done) size Read
-
--- what a transfer of so many bytes leaves, and the piece that it prints
-abbrev pub transferred : List Cap → Content → ℕ → ℕ → Called → CallEffect
-transferred r c done size called =
-    let after = (prepared r c done size).after in
-    record { called = called; piece = read_bytes_of after process_region (place_of (register r 11) + done) size; content = after }
-
--- all bytes of a write to the console may be read
-pub record MayWrite (r : List Cap) (c : Content) : Type 0 where
-  pub number : integer r 17 ≡ 8
-  pub console : integer r 10 ≡ 1
-  pub some : integer r 12 ≢ 0
-  pub readable : IsTrue (is_readable c (register r 11) (integer r 12))
-
--- What each call comes to, in its order of tests: the status of exit; of write a bad descriptor (9), a count of 0, a bad address (14),
--- and then a transfer: of the bytes that are left, at most 4096, after which the count is answered; or of 4096, where more are left,
--- and the write goes on; or the end of the process by cause 12, where a touch lacks a frame. There is no other call (38). A refusal is
--- the negative of its number, modulo 2^64.
-pub record CallsAreExact : Type 0 where
-  pub exit : (r : List Cap) (c : Content) (done : ℕ) → integer r 17 ≡ 1 → call_effect r c done ≡ record { called = Ended (integer r 10 % 256); piece = []; content = c }
-  pub descriptor : (r : List Cap) (c : Content) (done : ℕ) → integer r 17 ≡ 8 → integer r 10 ≢ 1 → call_effect r c done ≡ answers c (2 ^ 64 - 9)
-  pub nothing : (r : List Cap) (c : Content) (done : ℕ) → integer r 17 ≡ 8 → integer r 10 ≡ 1 → integer r 12 ≡ 0 → call_effect r c done ≡ answers c 0
-  pub address : (r : List Cap) (c : Content) (done : ℕ) → integer r 17 ≡ 8 → integer r 10 ≡ 1 → integer r 12 ≢ 0 → IsFalse (is_readable c (register r 11) (integer r 12)) → call_effect r c done ≡ answers c (2 ^ 64 - 14)
-  pub last : (r : List Cap) (c : Content) (done size : ℕ) (notes : List Note) → MayWrite r c → done + size ≡ integer r 12 → size ≤ 4096 → (prepared r c done size).answer ≡ Ok notes
-      → call_effect r c done ≡ transferred r c done size (Answered (integer r 12))
-  pub more : (r : List Cap) (c : Content) (done : ℕ) (notes : List Note) → MayWrite r c → done + 4096 < integer r 12 → (prepared r c done 4096).answer ≡ Ok notes
-      → call_effect r c done ≡ transferred r c done 4096 (Writing (done + 4096))
-  pub lacked : (r : List Cap) (c : Content) (done size : ℕ) (lack : NoFrame) → MayWrite r c → size ≡ min (integer r 12 - done) 4096 → (prepared r c done size).answer ≡ Err lack
-      → call_effect r c done ≡ record { called = Ended 268; piece = []; content = (prepared r c done size).after }
-  pub other : (r : List Cap) (c : Content) (done : ℕ) → integer r 17 ≢ 1 → integer r 17 ≢ 8 → call_effect r c done ≡ answers c (2 ^ 64 - 38)
 
 -- a command that runs nothing, and one that shows an image, on the file that the word at an index names
 abbrev pub IsToolOn : Command → ℕ → Type 0

@@ -1,10 +1,6 @@
 pub mod Numbers
 pub mod Lines
-pub mod Machine
-pub mod Calls
-pub mod Steps
 pub mod Run
-pub mod Kernel
 pub mod Input
 pub mod Tools
 pub mod Answer
@@ -12,7 +8,6 @@ pub mod Request
 pub mod Reading
 pub mod Headline
 pub mod Laws
-pub mod StepLaws
 pub mod Telling
 pub mod Cutting
 pub mod Saying

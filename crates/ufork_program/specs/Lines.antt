@@ -7,18 +7,6 @@ use Rattle.asm_text.specs.declared.source.SourceReason.{SourceReason}
 use Rattle.asm_text.specs.declared.source.SourceReason.TheVariants as source
 use Rattle.cap_format.specs.declared.image.ImageReason.TheVariants.{TooLong, Truncated, BadMagic, BadHeader, UnknownType, BadFlags, BadAddress, BadSize, Overlap, SecondTable, FileRange, NoSegment, BadEntry, BadPlace, BadBounds, BadOffset, BadPerms}
 
--- the process of this id ended with this status
-abbrev pub exit_line : ℕ → ℕ → List ℕ
-exit_line id status = codes "exit " ++ (decimal id ++ (codes " " ++ (decimal status ++ codes "\n")))
-
--- no process is live after so many steps
-abbrev pub done_line : ℕ → List ℕ
-done_line steps = codes "done " ++ (decimal steps ++ codes "\n")
-
--- a process is live after so many steps, and no more are made
-abbrev pub stopped_line : ℕ → List ℕ
-stopped_line steps = codes "stopped " ++ (decimal steps ++ codes "\n")
-
 -- the words aren't a command, from this place on
 abbrev pub usage_line : ℕ → List ℕ
 usage_line place = codes "ufork: usage: word " ++ (decimal place ++ codes "\n")

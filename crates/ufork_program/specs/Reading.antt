@@ -1,5 +1,5 @@
 -- What each file that a command names comes to, before a request is made of it.
-use Rattle.std.specs.Prelude.{◌≡◌, ◌<◌, ℕ, List, [], Some, None, IfSome, IsOk, Result, Ok, Err, MatchResult, length, ⊤}
+use Rattle.std.specs.Prelude.{◌≡◌, ◌<◌, ℕ, List, [], Some, None, IfSome, IsOk, Result, Ok, Err, MatchResult, All, length, ⊤}
 use Rattle.std.specs.declared.option.Option.{Option}
 use Rattle.outside_io.specs.States.{FilesState, SourceState}
 use Rattle.cap_format.specs.declared.image.ImageFault.{ImageFault}
@@ -12,6 +12,8 @@ use Rattle.command_words.specs.declared.words.Command.{Command}
 use Rattle.command_words.specs.declared.words.Command.TheVariants as command
 use Rattle.command_words.specs.Commands.{read_of}
 use Rattle.command_words.specs.Sayings.{IsCommandOf, IsWithinLimits}
+use Rattle.machine.specs.Sound.{IsQuantum}
+use Rattle.machine_steps.specs.Runs.{quanta_of}
 use Rattle.run_texts.specs.Schedules.{schedule_of}
 use Rattle.ufork_program.specs.Input.{TookTooMany, TookUntilFault}
 use Rattle.ufork_program.specs.Answer.{Files, named_by}
@@ -106,10 +108,11 @@ pub record ComesOfFiles (words : List (List ℕ)) (told : Told) (result : Result
   pub told_is : IfSome told (λ contents. files ≡ named_by words contents)
   pub is : AreFilesOf words files result
 
--- the image was read from its bytes, and the configuration is within the limits
+-- the image was read from its bytes, and the configuration and the quanta are within the limits
 pub record IsNamed (named : NamedFiles) : Type 0 where
   pub read : IsRead named.bytes.items (Ok named.image)
   pub within : IsWithinLimits named.config
+  pub quanta : All IsQuantum (quanta_of named.schedule)
 
 -- why there is no input, and what was taken of it
 abbrev pub IsInputStop : SourceState → SourceState → Stop → Type 0

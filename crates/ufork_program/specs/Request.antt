@@ -1,5 +1,5 @@
 -- What the program comes to before it writes anything, and why.
-use Rattle.std.specs.Prelude.{◌≡◌, ℕ, ◌<◌, ◌≤◌, ◌⊎◌, List, [], Some, None, IsOk, IfSome, IsSomeAnd, Ok, Err, length, ⊤}
+use Rattle.std.specs.Prelude.{◌≡◌, ℕ, ◌<◌, ◌≤◌, ◌⊎◌, List, [], Some, None, IsOk, IfSome, IsSomeAnd, Ok, Err, All, length, ⊤}
 use Rattle.std.specs.declared.option.Option.{Option}
 use Rattle.outside_io.specs.Faults.{Rose}
 use Rattle.outside_io.specs.States.{FilesState, SourceState}
@@ -19,7 +19,9 @@ use Rattle.command_words.specs.Commands.{read_of}
 use Rattle.command_words.specs.Sayings.{IsWithinLimits}
 use Rattle.run_texts.specs.Schedules.{schedule_of}
 use Rattle.ufork_program.specs.Numbers.{most_input}
-use Rattle.ufork_program.specs.Machine.{Machine, Setup}
+use Rattle.machine.specs.Machines.{Machine}
+use Rattle.machine.specs.Sound.{IsQuantum}
+use Rattle.machine_steps.specs.Runs.{Setup, quanta_of}
 use Rattle.ufork_program.specs.Run.{run_course}
 use Rattle.ufork_program.specs.Tools.{file_parts, instr_parts, summary_parts}
 use Rattle.ufork_program.specs.Input.{TookAll, TookTooMany, TookUntilFault}
@@ -229,10 +231,17 @@ HasInputCause old new (request.Refused (NoFrames pages frames)) = TookSome old n
 HasInputCause old new (request.Run guest) = TookAll guest.input.items old new
 HasInputCause old new _ = new ≡ old
 
--- A guest's image was read from its bytes, its configuration is within the limits, and there is a frame for each page.
+-- The input after a request was answered. Memory for the kernel is wanted after the input was read, and all other memory before.
+abbrev pub IsInputAfter : SourceState → SourceState → Request → Type 0
+IsInputAfter old new request.NoMemory = (new ≡ old) ⊎ TookSome old new
+IsInputAfter old new request = HasInputCause old new request
+
+-- A guest's image was read from its bytes, its configuration is within the limits, so are the quanta of its schedule, and there is a frame
+-- for each page.
 pub record CanRun (guest : Guest) : Type 0 where
   pub read : IsRead guest.bytes.items (Ok guest.image)
   pub within : IsWithinLimits guest.config
+  pub quanta : All IsQuantum (quanta_of guest.schedule)
   pub room : guest.image.pages ≤ guest.config.frames
 
 -- what was assembled is an image, and an image that is shown was read from its bytes

@@ -1,60 +1,80 @@
 -- What a run prints, what stands meanwhile, and where it ends.
-use Rattle.std.specs.Prelude.{◌≡◌, ℕ, zero, suc, ◌+◌, ◌<◌, ◌≤◌, ◌⊎◌, true, false, Some, List, [], ◌∷◌, ◌++◌, if◌then◌else◌}
+use Rattle.std.specs.Prelude.{◌≡◌, ℕ, zero, suc, ◌<◌, ◌≤◌, ◌⊎◌, false, Some, None, List, [], ◌∷◌, ◌++◌, if◌then◌else◌}
 use Rattle.std.specs.declared.option.Option.{Option}
-use Rattle.outside_io.specs.Parts.{err_part}
+use Rattle.outside_io.specs.Parts.{Part, out_part, err_part}
 use Rattle.outside_io.specs.Moments.{Moment, Course, while_stands}
-use Rattle.ufork_program.specs.Lines.{done_line, stopped_line}
-use Rattle.ufork_program.specs.Machine.{Machine, Setup, start}
-use Rattle.ufork_program.specs.Steps.{step_of, step_parts}
+use Rattle.contents.specs.Content.{Content}
+use Rattle.stores.specs.declared.space.Stores.{Ghosts}
+use Rattle.machine_types.specs.declared.config.Outcome.TheVariants.{Running}
+use Rattle.machine.specs.Machines.{Machine}
+use Rattle.machine.specs.Readiness.{outcome_of}
+use Rattle.machine_steps.specs.Steps.{Step, step_of, state}
+use Rattle.machine_steps.specs.Runs.{Setup, start, is_running, status_of}
+use Rattle.kernel_loop.specs.declared.kernel.Kernel.{Kernel}
+use Rattle.kernel_loop.specs.Kernels.{KernelStands}
+use Rattle.run_texts.specs.Endings as endings
+use Rattle.ufork_program.specs.declared.run.Show.{Show}
+use Rattle.ufork_program.specs.declared.run.Show.TheVariants.{Console, Quiet}
 
--- The moments of a run of at most so many steps, which ends where the process does. While the parts of a step are written, the
+-- A step has a part for the output, which is the piece that it printed, or none, and then one for the errors: the line of the process, if
+-- it ended.
+abbrev pub parts_as : Show → List ℕ → List ℕ → List Part
+parts_as Console piece line = out_part piece ∷ err_part line ∷ []
+parts_as Quiet piece line = err_part line ∷ []
+
+abbrev pub shown_parts : Show → Step → List Part
+shown_parts show s = parts_as show s.printed (endings.end_line s.report)
+
+abbrev pub step_parts : Show → Machine → List Part
+step_parts show m = shown_parts show (step_of m)
+
+-- The moments of a run of at most so many steps, which ends where the machine doesn't run. While the parts of a step are written, the
 -- machine after it stands.
-unfoldable pub run_moments : Machine → ℕ → List (Moment (Option Machine))
-run_moments m zero = []
-run_moments m (suc limit) = if m.live then while_stands (Some (step_of m).after) (step_parts m) ++ run_moments (step_of m).after limit else []
+unfoldable pub run_moments : Show → Machine → ℕ → List (Moment (Option Machine))
+run_moments show m zero = []
+run_moments show m (suc left) = if is_running (outcome_of m) then while_stands (Some (step_of m).next) (step_parts show m) ++ run_moments show (step_of m).next left else []
 
 -- the machine at the end of that run
 unfoldable pub run_end : Machine → ℕ → Machine
 run_end m zero = m
-run_end m (suc limit) = if m.live then run_end (step_of m).after limit else m
+run_end m (suc left) = if is_running (outcome_of m) then run_end (step_of m).next left else m
 
--- the status and the last line of a run that ended there: its process is live still, or has ended
+-- the status and the last line of a run that ended there, by how the machine stands
 abbrev pub status_at : Machine → ℕ
-status_at m = if m.live then 8 else 0
+status_at m = status_of (outcome_of m)
 
 abbrev pub last_line : Machine → List ℕ
-last_line m = if m.live then stopped_line m.steps else done_line m.steps
+last_line m = endings.last_line (outcome_of m) m.clock.steps
 
 -- the course of a run of at most so many steps: its steps, and then the last line, while the machine at the end stands
-abbrev pub course_from : Machine → ℕ → Course (Option Machine)
-course_from m limit =
-    let end = run_end m limit in
-    record { status = status_at end; moments = run_moments m limit ++ (err_part (last_line end), Some end) ∷ []; end = Some end }
+abbrev pub course_from : Show → Machine → ℕ → Course (Option Machine)
+course_from show m left =
+    let end = run_end m left in
+    record { status = status_at end; moments = run_moments show m left ++ (err_part (last_line end), Some end) ∷ []; end = Some end }
 
 -- the run of what is set up, of at most the configured steps
 abbrev pub run_course : Setup → Course (Option Machine)
-run_course setup = course_from (start setup) setup.config.steps
-
--- the machine after so many steps
-unfoldable pub state_after : Machine → ℕ → Machine
-state_after m zero = m
-state_after m (suc steps) = (step_of (state_after m steps)).after
+run_course setup = course_from Console (start setup) setup.config.steps
 
 -- the moments of so many steps
-unfoldable pub moments_of : Machine → ℕ → List (Moment (Option Machine))
-moments_of m zero = []
-moments_of m (suc steps) = moments_of m steps ++ while_stands (Some (state_after m (suc steps))) (step_parts (state_after m steps))
+unfoldable pub moments_of : Show → Machine → ℕ → List (Moment (Option Machine))
+moments_of show m zero = []
+moments_of show m (suc steps) = moments_of show m steps ++ while_stands (Some (state m (suc steps))) (step_parts show (state m steps))
 
--- The run ends after the least number of steps at which the process isn't live, or at the limit.
-pub record EndsAtTheLeast (m : Machine) (limit : ℕ) : Type 0 where
+-- The run ends after the least number of steps at which the machine doesn't run, or at the limit.
+pub record EndsAtTheLeast (show : Show) (m : Machine) (left : ℕ) : Type 0 where
   pub steps : ℕ
-  pub within : steps ≤ limit
-  pub live : (made : ℕ) → made < steps → (state_after m made).live ≡ true
-  pub over : (steps ≡ limit) ⊎ ((state_after m steps).live ≡ false)
-  pub end : run_end m limit ≡ state_after m steps
-  pub counted : (state_after m steps).steps ≡ m.steps + steps
-  pub moments : run_moments m limit ≡ moments_of m steps
+  pub within : steps ≤ left
+  pub running : (made : ℕ) → made < steps → outcome_of (state m made) ≡ Running
+  pub over : (steps ≡ left) ⊎ (is_running (outcome_of (state m steps)) ≡ false)
+  pub end : run_end m left ≡ state m steps
+  pub moments : run_moments show m left ≡ moments_of show m steps
 
 -- each run does
 abbrev pub RunsEndAtTheLeast : Type 0
-RunsEndAtTheLeast = (m : Machine) (limit : ℕ) → EndsAtTheLeast m limit
+RunsEndAtTheLeast = (show : Show) (m : Machine) (left : ℕ) → EndsAtTheLeast show m left
+
+-- a machine that stands is one for which the kernel does
+abbrev pub IsLeftIn : {S : Type 0} {g : Ghosts S} → (S → Content → Type 0) → Kernel S g → Option Machine → Type 0
+IsLeftIn stands_for k None = ⊥
+IsLeftIn stands_for k (Some m) = KernelStands stands_for k m

@@ -13,13 +13,13 @@ use Rattle.ufork_program.specs.Headline.{Call, OfSources, Promises}
 use Rattle.ufork_program.specs.Request.{NamesNoImage, NamesNoSource}
 use Rattle.ufork_program.specs.Laws.{IsToolOn}
 
--- With 10 nothing is written. But for 7, 0 and 8 the board comes back as it was, empty. With 3 the line of the name that failed last is
+-- With 10 nothing is written. But for 7, 0, 8 and 9 the board comes back as it was, empty. With 3 the line of the name that failed last is
 -- written, and with 6 that of the input, and nothing else. With 4 the line of the first rule is written that the image breaks, and with 13 that
 -- of the source's first fault. A command that runs nothing leaves the input and the board as they were. With 2 the words are no command. 7 comes only where a sink failed, and where no
 -- count stood at its last value a fault of a sink, of a file or of the input is not passed over.
 pub record PromisesSay : Type 0 where
   pub nothing : (call : Call) → Promises call → call.status ≡ 10 → Written [] (console_of call.old) (console_of call.new)
-  pub empty : (call : Call) → Promises call → call.status ≢ 7 → call.status ≢ 0 → call.status ≢ 8 → (call.left ≡ call.given) × IsEmpty call.left
+  pub empty : (call : Call) → Promises call → call.status ≢ 7 → call.status ≢ 0 → call.status ≢ 8 → call.status ≢ 9 → (call.left ≡ call.given) × IsEmpty call.left
   pub failed_line : (call : Call) → Promises call → call.status ≡ 3
       → (name : List ℕ) × (call.new.files.failed_last ≡ Some name) × Written (err_part (cannot_read_line name) ∷ []) (console_of call.old) (console_of call.new)
   pub broke_line : (call : Call) → Promises call → call.status ≡ 6 → Written (err_part input_failed_line ∷ []) (console_of call.old) (console_of call.new)

@@ -1,5 +1,5 @@
 -- What follows from what a call promises, where the contents of files and the bytes of the input are told: a second meaning of the promise.
-use Rattle.std.specs.Prelude.{◌≡◌, ℕ, ◌+◌, ◌≤◌, ◌≢◌, ◌⊎◌, Bool, Ok, true, false, List, [], ◌++◌, length, Some}
+use Rattle.std.specs.Prelude.{◌≡◌, ℕ, ◌+◌, ◌≤◌, ◌≢◌, ◌⊎◌, Ok, List, [], ◌++◌, length, Some}
 use Rattle.std.specs.declared.option.Option.{Option}
 use Rattle.outside_io.specs.Faults.{Rose}
 use Rattle.outside_io.specs.States.{NoneRose}
@@ -15,7 +15,10 @@ use Rattle.command_words.specs.declared.words.Command.{Command}
 use Rattle.command_words.specs.declared.words.Command.TheVariants as command
 use Rattle.command_words.specs.Commands.{read_of}
 use Rattle.ufork_program.specs.Numbers.{most_input}
-use Rattle.ufork_program.specs.Machine.{Setup, start}
+use Rattle.machine_types.specs.declared.config.Outcome.{Outcome}
+use Rattle.machine_types.specs.declared.config.Outcome.TheVariants.{Running, Done, Stuck}
+use Rattle.machine.specs.Readiness.{outcome_of}
+use Rattle.machine_steps.specs.Runs.{Setup, start}
 use Rattle.ufork_program.specs.Run.{run_end, status_at, run_course}
 use Rattle.ufork_program.specs.Answer.{word_at, named_by, Sources, course, refused}
 use Rattle.ufork_program.specs.Request.{file_index, NamesFiles, NamesImage, NamesNoImage, NamesNoSchedule, NamesNoSource, NamesShown, NamesTooMany, NamesGuest, ReadsInput, HasLongInput, IsReadAt}
@@ -28,13 +31,13 @@ pub record Tells (call : Call) (sources : Sources) : Type 0 where
   pub files_are : sources.files ≡ named_by call.words contents
   pub input_told : call.old.input.left ≡ Some sources.input
 
--- What the words name was run, and the process is live after the configured steps or has ended: the parts of the run are written, the
--- board stands for the machine at its end, and nothing of the input is left.
-pub record RanThem (live : Bool) (call : Call) (sources : Sources) : Type 0 where
+-- What the words name was run to the configured steps, or until the machine didn't run, and it stands so there: the parts of the run are written,
+-- the board stands for the machine at its end, and nothing of the input is left.
+pub record RanThem (outcome : Outcome) (call : Call) (sources : Sources) : Type 0 where
   pub setup : Setup
   pub named : NamesGuest call.words sources setup
   pub room : (image_of setup.file).pages ≤ setup.config.frames
-  pub live_is : (run_end (start setup) setup.config.steps).live ≡ live
+  pub outcome_is : outcome_of (run_end (start setup) setup.config.steps) ≡ outcome
   pub written : Written (parts_of (run_course setup).moments) (console_of call.old) (console_of call.new)
   pub stands : Stands call.left (run_end (start setup) setup.config.steps).content
   pub end : call.new.input.left ≡ Some []
@@ -101,12 +104,13 @@ pub record ShownThere (call : Call) (sources : Sources) : Type 0 where
   pub empty : IsEmpty call.left
   pub unasked : call.new.input ≡ call.old.input
 
--- What a promise tells: with 0 and 8 what is told was run, or with 0 shown, with 3 and 6 a file or the input failed, and with 4, 5, 11, 12 and
+-- What a promise tells: with 0, 8 and 9 what is told was run, or with 0 shown, with 3 and 6 a file or the input failed, and with 4, 5, 11, 12 and
 -- 13 it is what was refused. Where nothing is refused and no count rose, it was run or shown; where something is refused, the status is that of
 -- the refusal; or memory was wanted. The input is as it was, unless the words name an image and a schedule.
 pub record PromisesTell : Type 0 where
-  pub done : (call : Call) (sources : Sources) → Promises call → Tells call sources → call.status ≡ 0 → RanThem false call sources ⊎ ShownThere call sources
-  pub stopped : (call : Call) (sources : Sources) → Promises call → Tells call sources → call.status ≡ 8 → RanThem true call sources
+  pub done : (call : Call) (sources : Sources) → Promises call → Tells call sources → call.status ≡ 0 → RanThem Done call sources ⊎ ShownThere call sources
+  pub stopped : (call : Call) (sources : Sources) → Promises call → Tells call sources → call.status ≡ 8 → RanThem Running call sources
+  pub stuck : (call : Call) (sources : Sources) → Promises call → Tells call sources → call.status ≡ 9 → RanThem Stuck call sources
   pub failed : (call : Call) (sources : Sources) → Promises call → Tells call sources → call.status ≡ 3 → FailedThere call sources
   pub broke : (call : Call) (sources : Sources) → Promises call → Tells call sources → call.status ≡ 6 → BrokeThere call sources
   pub no_image : (call : Call) (sources : Sources) → Promises call → Tells call sources → call.status ≡ 4

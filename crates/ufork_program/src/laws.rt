@@ -1,40 +1,23 @@
 // Laws of the numbers and of runs: each is a function that states one, does nothing and takes nothing.
 ghost use Rattle.ufork_program.specs.Numbers.{ConstantsAreFixed};
-ghost use Rattle.ufork_program.specs.Steps.{StepsStaySound, CallsLeaveStores};
 ghost use Rattle.ufork_program.specs.Run.{RunsEndAtTheLeast};
-ghost use Rattle.ufork_program.specs.Laws.{CallsAreExact, ListingsAreExact, CoursesAreExact};
-ghost use Rattle.ufork_program.specs.StepLaws.{MachinesAreExact};
+ghost use Rattle.ufork_program.specs.Laws.{ListingsAreExact, CoursesAreExact};
 ghost use Rattle.ufork_program.specs.Telling.{PromisesTell};
 ghost use Rattle.ufork_program.specs.Cutting.{CutsTell};
 ghost use Rattle.ufork_program.specs.Saying.{PromisesSay};
 ghost use Rattle.ufork_program.specs.Examples.{WorkedLinesHold};
 
 use cap_format::long_files_are_none;
-use cheri_step::{effects_keep_running, faults_change_nothing};
-use contents::{calls_keep_whole, other_stores_stay, regions_are_kept};
-use elf_loader::starts_are_exact;
 
 /// The constants of this crate are the numbers that the definitions fix.
 pub fn constants_are_fixed()
     ensures { ConstantsAreFixed }
 {}
 
-/// A run ends after the least number of steps at which the process isn't live, or at the limit. While the parts of a step are
+/// A run ends after the least number of steps at which the machine doesn't run, or at the limit. While the parts of a step are
 /// written, the machine after it stands.
 pub fn runs_end_at_the_least()
     ensures { RunsEndAtTheLeast }
-{}
-
-/// A call leaves every store, before the process ends by it.
-pub fn calls_leave_stores()
-    ensures { CallsLeaveStores }
-{
-    other_stores_stay();
-}
-
-/// Each call in its order of tests, with the numbers of its refusals.
-pub fn calls_are_exact()
-    ensures { CallsAreExact }
 {}
 
 /// Lines that were worked out by hand are those.
@@ -52,25 +35,6 @@ pub fn courses_are_exact()
     ensures { CoursesAreExact }
 {
     long_files_are_none();
-}
-
-/// While the process is live, a step leaves it one that may run. One that ends has no store.
-pub fn steps_stay_sound()
-    ensures { StepsStaySound }
-{
-    regions_are_kept();
-    effects_keep_running();
-    faults_change_nothing();
-    calls_leave_stores();
-    calls_keep_whole();
-}
-
-/// Each step case by case, which bytes are readable for a call, and the machine with which a run begins.
-pub fn machines_are_exact()
-    ensures { MachinesAreExact }
-{
-    starts_are_exact();
-    calls_keep_whole();
 }
 
 /// What a call's promise comes to where the contents of files and the bytes of the input are told: what was run or

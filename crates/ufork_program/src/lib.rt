@@ -5,20 +5,17 @@
 //! of the outside fails.
 #![tactic(auto)]
 
-mod calls;
 mod input;
-mod kernel;
 mod laws;
 mod lines;
-mod piece;
 mod request;
 mod run;
 mod tools;
 mod top;
 
 pub use laws::{
-    calls_are_exact, calls_leave_stores, constants_are_fixed, courses_are_exact, cuts_tell,
-    listings_are_exact, machines_are_exact, promises_say, promises_tell, runs_end_at_the_least,
-    steps_stay_sound, worked_lines_hold,
+    constants_are_fixed, courses_are_exact, cuts_tell, listings_are_exact, promises_say,
+    promises_tell, runs_end_at_the_least, worked_lines_hold,
 };
+pub use run::{RunDone, Show, run_machine};
 pub use top::{Ended, ufork};

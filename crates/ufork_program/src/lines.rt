@@ -1,58 +1,12 @@
 // The lines of the program.
-ghost use Rattle.std.specs.Prelude.{◌≡◌, ◌≤◌, ◌++◌, if◌then◌else◌, codes, length};
+ghost use Rattle.std.specs.Prelude.{◌≡◌, ◌≤◌, ◌++◌, codes, length};
 ghost use Rattle.outside_io.specs.States.{PrintsText};
-ghost use Rattle.ufork_program.specs.Lines.{exit_line, done_line, stopped_line, cannot_read_line, usage_line, schedule_refused_line, input_failed_line, input_too_long_line, frames_lacked_line, reason_text, image_refused_line, source_reason_text, source_refused_line, image_line};
+ghost use Rattle.ufork_program.specs.Lines.{cannot_read_line, usage_line, schedule_refused_line, input_failed_line, input_too_long_line, frames_lacked_line, reason_text, image_refused_line, source_reason_text, source_refused_line, image_line};
 
 use asm_text::{SourceFault, SourceReason};
 use cap_format::{ImageFault, ImageReason};
 use outside_io::{Failed, Sink};
 use text_line::Line;
-
-/// Writes `exit ID STATUS`, by one write.
-pub fn write_exit<E: Sink>(id: u64, status: u64, err: &mut E) -> Result<(), Failed>
-    ensures { PrintsText (exit_line id status) (E.state err.old) (E.state err.new) result }
-{
-    let mut line = Line::new();
-    line.put(b"\n");
-    line.put_number(status);
-    line.put(b" ");
-    line.put_number(id);
-    line.put(b"exit ");
-    err.write(line.text())
-}
-
-// Writes `done STEPS`, by one write.
-fn write_done<E: Sink>(steps: u64, err: &mut E) -> Result<(), Failed>
-    ensures { PrintsText (done_line steps) (E.state err.old) (E.state err.new) result }
-{
-    let mut line = Line::new();
-    line.put(b"\n");
-    line.put_number(steps);
-    line.put(b"done ");
-    err.write(line.text())
-}
-
-// Writes `stopped STEPS`, by one write.
-fn write_stopped<E: Sink>(steps: u64, err: &mut E) -> Result<(), Failed>
-    ensures { PrintsText (stopped_line steps) (E.state err.old) (E.state err.new) result }
-{
-    let mut line = Line::new();
-    line.put(b"\n");
-    line.put_number(steps);
-    line.put(b"stopped ");
-    err.write(line.text())
-}
-
-/// Writes the last line of a run that made so many steps, by one write: whether its process is live still, or has ended.
-pub fn write_last<E: Sink>(live: bool, steps: u64, err: &mut E) -> Result<(), Failed>
-    ensures { PrintsText (if live then stopped_line steps else done_line steps) (E.state err.old) (E.state err.new) result }
-{
-    if live {
-        write_stopped(steps, err)
-    } else {
-        write_done(steps, err)
-    }
-}
 
 /// Writes `ufork: usage: word PLACE`, by one write.
 pub fn write_usage<E: Sink>(place: u64, err: &mut E) -> Result<(), Failed>

@@ -1,5 +1,5 @@
 // What is read, in order, before anything is written.
-ghost use Rattle.std.specs.Prelude.{◌≡◌, ◌<◌, ℕ, List, Some, IfOk, IfSome, Option, Ok, Err, MatchResult, length, map, string_bytes};
+ghost use Rattle.std.specs.Prelude.{◌≡◌, ◌<◌, ℕ, List, Some, IfOk, IfSome, Option, Ok, Err, MatchResult, All, length, map, string_bytes};
 ghost use Rattle.cap_format.specs.Numbers.{image_bytes};
 ghost use Rattle.cap_format.specs.Image.{IsImage, fault_of};
 ghost use Rattle.asm_text.specs.Numbers.{source_bytes};
@@ -7,6 +7,8 @@ ghost use Rattle.asm_text.specs.Spans.{IsRefusedAs};
 ghost use Rattle.asm_image.specs.Assembled.{file_from};
 ghost use Rattle.outside_io.specs.States.{SourceState};
 ghost use Rattle.outside_io.specs.Contents.{IsReadOf, HasFileCause};
+ghost use Rattle.machine.specs.Sound.{IsQuantum};
+ghost use Rattle.machine_steps.specs.Runs.{quanta_of};
 ghost use Rattle.ufork_program.specs.Answer.{word_at, named_by};
 ghost use Rattle.ufork_program.specs.Input.{TookAll};
 ghost use Rattle.ufork_program.specs.Request.{ComesOf, HasFilesCause, HasInputCause, IsUsable};
@@ -177,6 +179,7 @@ fn read_schedule_file<F: Files>(
 ) -> Result<Schedule, Stop>
     requires { index < length words.now }
     ensures is { IsScheduleFileAt (map string_bytes words.now) (F.state files.old).contents index result }
+    ensures quanta { IfOk result (λ schedule. All IsQuantum (quanta_of schedule)) }
     ensures cause { HasReadCause (map string_bytes words.now) (F.state files.old) (F.state files.new) result }
     ensures contents { (F.state files.new).contents ≡ (F.state files.old).contents }
 {
@@ -206,6 +209,7 @@ fn read_option<F: Files>(
 ) -> Result<Schedule, Stop>
     requires { IfSome options.now.schedule (λ index. index < length words.now) }
     ensures is { IsOptionRead (map string_bytes words.now) (F.state files.old).contents options.now.schedule result }
+    ensures quanta { IfOk result (λ schedule. All IsQuantum (quanta_of schedule)) }
     ensures cause { HasReadCause (map string_bytes words.now) (F.state files.old) (F.state files.new) result }
     ensures contents { (F.state files.new).contents ≡ (F.state files.old).contents }
 {

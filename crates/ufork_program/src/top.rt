@@ -1,25 +1,24 @@
 // The top call.
-ghost use Rattle.std.specs.Prelude.{◌≡◌, Ok, Err, MatchResult, map, string_bytes};
+ghost use Rattle.std.specs.Prelude.{◌≡◌, ◌≤◌, Ok, Err, MatchResult, map, string_bytes};
 ghost use Rattle.cap_format.specs.Numbers.{most_frames};
 ghost use Rattle.outside_io.specs.States.{outside};
 ghost use Rattle.outside_io.specs.Parts.{console};
-ghost use Rattle.outside_io.specs.Answers.{Answers, write_fault};
-ghost use Rattle.outside_io.specs.Moments.{EndsAt};
+ghost use Rattle.outside_io.specs.Answers.{Answers, memory_wanted, write_fault};
 ghost use Rattle.stores.specs.Boards.{IsEmpty, made_frames};
 ghost use Rattle.ufork_program.specs.Run.{run_course};
-ghost use Rattle.ufork_program.specs.Request.{course_of, refusal_of, setup_of, parts_shown, CanRun, CanShow, IsUsable};
+ghost use Rattle.ufork_program.specs.Request.{refusal_of, setup_of, parts_shown, CanRun, CanShow, IsUsable};
 ghost use Rattle.ufork_program.specs.Answer.{shown_answer};
-ghost use Rattle.ufork_program.specs.Headline.{call, IsLeftOn, Went, Promises};
+ghost use Rattle.ufork_program.specs.Headline.{call, IsLeftOn, IsRunOr, IsAnswered, Went, Promises};
 
-use crate::kernel::Kernel;
 use crate::lines::{
     write_cannot_read, write_frames_lacked, write_image_refused, write_input_failed,
     write_input_too_long, write_schedule_refused, write_source_refused, write_usage,
 };
 use crate::request::{CommandRefusal, Guest, Request, Shown, read_request};
-use crate::run::print_run;
+use crate::run::{RunEnded, print_run};
 use crate::tools::write_shown;
 use full_space::FullSpace;
+use kernel_loop::{BootRefusal, Kernel};
 use outside_io::{Failed, Files, Sink, Source};
 use std::alloc::Global;
 use stores::Board;
@@ -76,12 +75,31 @@ fn show<O: Sink, E: Sink>(shown: Shown, out: &mut O, err: &E) -> Result<u8, Fail
     answered(0, write_shown(&shown, out, err))
 }
 
-// Runs a guest on an empty board.
-fn run_guest<O: Sink, E: Sink>(guest: Guest, board: Board, out: &mut O, err: &mut E) -> Ended
+// What is answered where there is no memory for the kernel. The board has its own number of frames again.
+fn hand_back(space: FullSpace, frames: u32) -> Ended
+    requires empty { IsEmpty space.board }
+    requires most { frames ≤ made_frames space.board }
+    ensures status { result.status ≡ memory_wanted.status }
+    ensures board { result.board ≡ record space.board { pool = record space.board.pool { size = frames } } }
+    ensures empty { IsEmpty result.board }
+{
+    let mut board = space.into_board();
+    board.set_frames(frames);
+    Ended { status: 10, board }
+}
+
+// Runs a guest on an empty board, or finds no memory for the kernel.
+fn run_guest<O: Sink, E: Sink>(
+    alloc: Global,
+    guest: Guest,
+    board: Board,
+    out: &mut O,
+    err: &mut E,
+) -> Ended
     requires can { CanRun guest }
     requires empty { IsEmpty board }
     requires made { made_frames board ≡ most_frames }
-    ensures { EndsAt (run_course (setup_of guest)) (IsLeftOn board result.board)
+    ensures { IsRunOr (run_course (setup_of guest)) (IsLeftOn board result.board)
         (console (O.state out.old) (E.state err.old)) (console (O.state out.new) (E.state err.new)) result.status }
 {
     let Guest {
@@ -92,24 +110,23 @@ fn run_guest<O: Sink, E: Sink>(guest: Guest, board: Board, out: &mut O, err: &mu
         input,
     } = guest;
     let mut board = board;
+    let frames = board.pool.size();
     board.set_frames(config.frames);
-    let mut kernel = Kernel::boot(
-        config,
-        schedule,
-        input,
-        &image,
-        &bytes,
-        FullSpace::new(board),
-    );
-    let status = status_of(print_run(&mut kernel, config.steps, out, err));
+    let space = FullSpace::new(board);
+    let kernel = match Kernel::boot(alloc, &config, &image, &bytes, input, schedule, space) {
+        Ok(kernel) => kernel,
+        Err(BootRefusal { space, reason: _ }) => return hand_back(space, frames),
+    };
+    let RunEnded { kernel, status } = print_run(kernel, config.steps, out, err);
     Ended {
-        status,
+        status: status_of(status),
         board: kernel.into_space().into_board(),
     }
 }
 
 // Writes what is answered by what was read.
 fn answer_request<O: Sink, E: Sink>(
+    alloc: Global,
     words: &[String],
     request: Request,
     board: Board,
@@ -119,11 +136,11 @@ fn answer_request<O: Sink, E: Sink>(
     requires usable { IsUsable (map string_bytes words.now) request }
     requires empty { IsEmpty board }
     requires made { made_frames board ≡ most_frames }
-    ensures { EndsAt (course_of (map string_bytes words.now) request) (IsLeftOn board result.board)
+    ensures { IsAnswered (map string_bytes words.now) request (IsLeftOn board result.board)
         (console (O.state out.old) (E.state err.old)) (console (O.state out.new) (E.state err.new)) result.status }
 {
     let written = match request {
-        Request::Run(guest) => return run_guest(guest, board, out, err),
+        Request::Run(guest) => return run_guest(alloc, guest, board, out, err),
         Request::NoMemory => Ok(10),
         Request::Refused(refusal) => refuse(words, refusal, out, err),
         Request::Show(shown) => show(shown, out, err),
@@ -161,7 +178,7 @@ fn read_and_write<F: Files, I: Source, O: Sink, E: Sink>(
         (outside (F.state files.new) (I.state input.new) (O.state out.new) (E.state err.new)) board result.board result.status) }
 {
     let request = read_request(alloc, words, files, input);
-    answer_request(words, request, board, out, err)
+    answer_request(alloc, words, request, board, out, err)
 }
 
 /// Does all that the program does, and gives the status with which it ends and the board.
@@ -170,7 +187,7 @@ fn read_and_write<F: Files, I: Source, O: Sink, E: Sink>(
 ///
 /// | Command | What it does |
 /// |---|---|
-/// | `run` | runs an image, writes the console's bytes to `out`, and to `err` a line for the end of the process and one for the end of the run |
+/// | `run` | runs an image, writes the console's bytes to `out`, and to `err` a line for the end of each process and one for the end of the run |
 /// | `asm` | writes the image of a source to `out`, by one write |
 /// | `disasm` | writes the instructions of an image to `out`, a line and a write for each word of a segment whose pages may be executed |
 /// | `check` | writes a line on an image to `out` |
@@ -184,15 +201,16 @@ fn read_and_write<F: Files, I: Source, O: Sink, E: Sink>(
 ///
 /// | Status | When | What `err` gains |
 /// |---|---|---|
-/// | 0 | the process ended, or a command other than `run` wrote all that it shows | `exit 1 STATUS` and `done STEPS`, or nothing |
+/// | 0 | no process is live at the end of the run, or a command other than `run` wrote all that it shows | `exit ID STATUS` for each process and `done STEPS`, or nothing |
 /// | 2 | the words are no command | `ufork: usage: word PLACE` |
 /// | 3 | a file was not read: its count of faults rose | `ufork: cannot read NAME` |
 /// | 4 | the file is no image | `ufork: image refused: REASON at PLACE` |
 /// | 5 | the schedule's text is none | `ufork: schedule refused: line LINE` |
 /// | 6 | the input was not read: its count of faults rose | `ufork: input failed` |
 /// | 7 | a write failed: the count of `out` or of `err` rose | what came before it |
-/// | 8 | the process is live after the configured steps | `stopped STEPS` |
-/// | 10 | memory was wanted for a file, for what was read of it, or for the input | nothing |
+/// | 8 | a live process is ready after the configured steps | the lines of processes that ended, and `stopped STEPS` |
+/// | 9 | processes are live and none is ready | the lines of processes that ended, and `stuck STEPS` |
+/// | 10 | memory was wanted for a file, for what was read of it, for the input, or for the kernel's tables | nothing |
 /// | 11 | the input has over 1048576 bytes | `ufork: input too long` |
 /// | 12 | the image has more pages than there are frames | `ufork: image needs PAGES pages, FRAMES frames` |
 /// | 13 | the text is no source of the assembler | `ufork: source refused: line LINE: REASON` |

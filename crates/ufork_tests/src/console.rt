@@ -130,7 +130,7 @@ fn a_descriptor_that_is_not_the_output_is_refused(rt: HostRuntime) -> Result<(),
 
 #[test]
 fn other_calls_are_refused(rt: HostRuntime) -> Result<(), Fail> {
-    for number in [-1, 0, 2, 3, 4, 5, 6, 7, 9, 10, 11, 12, 13, 99] {
+    for number in [-1, 0, 6, 9, 10, 11, 13, 99] {
         let code = [
             addi(17, 0, number),
             Instr::Ecall,

@@ -1,4 +1,4 @@
-// Schedules that a run is given: they are read and tested, and one process never sees them.
+// Schedules that a run is given: they are read and tested, and what one process prints is the same under each of them.
 use crate::images::{HI, image_of};
 use crate::runs::{Given, RUN, check_file};
 use std::alloc::Global;

@@ -4,7 +4,7 @@ use Rattle.ufork_program.proofs.laws.promises_say.Goals as goal
 pub returns : goal.returns
 returns c = record {
   nothing = λ call promises is. (promises.memory_wanted is).whole.written;
-  empty = λ call promises a b d. promises.not_run a b d;
+  empty = λ call promises a b d e. promises.not_run a b d e;
   failed_line = λ call promises is. let h = promises.file_failed is in (h.name, h.failed.last, h.whole.written);
   broke_line = λ call promises is. (promises.input_failed is).whole.written;
   tool = λ call tool index promises command which. let board = board-left call tool index promises command which in (input-left call tool index promises command which, board.0, board.1);

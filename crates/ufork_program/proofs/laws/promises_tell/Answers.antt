@@ -1,4 +1,5 @@
-use Rattle.std.proofs.Common.{true, inl, inr}
+use Rattle.std.proofs.Common.{inl, inr}
+use Rattle.machine_types.specs.declared.config.Outcome.TheVariants.{Running, Stuck}
 use Rattle.ufork_program.specs.Run.{run_course}
 use Rattle.ufork_program.specs.Answer.{refused}
 use Rattle.ufork_program.proofs.CourseLemmas.{run_leads}
@@ -8,7 +9,8 @@ use Rattle.ufork_program.proofs.laws.promises_tell.Goals as goal
 pub returns : goal.returns
 returns c = record {
   done = λ call sources promises told is. done-told call sources told (promises.done is);
-  stopped = λ call sources promises told is. ran-told call sources told true (promises.stopped is);
+  stopped = λ call sources promises told is. ran-told call sources told Running (promises.stopped is);
+  stuck = λ call sources promises told is. ran-told call sources told Stuck (promises.stuck is);
   failed = λ call sources promises told is. failed-told call sources told (promises.file_failed is);
   broke = λ call sources promises told is. broke-told call sources told (promises.input_failed is);
   no_image = λ call sources promises told is. let h = promises.image_refused is in (h.fault, told-holds call sources _ told h.named);

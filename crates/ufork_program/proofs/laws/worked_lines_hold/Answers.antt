@@ -5,9 +5,6 @@ use Rattle.ufork_program.proofs.laws.worked_lines_hold.Goals as goal
 pub returns : goal.returns
 unfolding digits
 returns c = record {
-  exit = refl;
-  done = refl;
-  stopped = refl;
   usage = refl;
   cannot_read = refl;
   image_refused = refl;
