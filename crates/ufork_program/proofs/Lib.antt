@@ -11,6 +11,7 @@ pub mod CutLemmas
 pub mod InputsKept
 pub mod HeadlineLemmas
 pub mod RunLemmas
+pub mod RunsExact
 pub mod LeftLemmas
 pub mod CourseLemmas
 pub mod SplitLemmas

@@ -1,6 +1,7 @@
 pub mod Numbers
 pub mod Lines
 pub mod Run
+pub mod Runs
 pub mod Input
 pub mod Tools
 pub mod Answer

@@ -1,6 +1,7 @@
 // Laws of the numbers and of runs: each is a function that states one, does nothing and takes nothing.
 ghost use Rattle.ufork_program.specs.Numbers.{ConstantsAreFixed};
 ghost use Rattle.ufork_program.specs.Run.{RunsEndAtTheLeast};
+ghost use Rattle.ufork_program.specs.Runs.{RunsAreExact};
 ghost use Rattle.ufork_program.specs.Laws.{ListingsAreExact, CoursesAreExact};
 ghost use Rattle.ufork_program.specs.Telling.{PromisesTell};
 ghost use Rattle.ufork_program.specs.Cutting.{CutsTell};
@@ -8,6 +9,7 @@ ghost use Rattle.ufork_program.specs.Saying.{PromisesSay};
 ghost use Rattle.ufork_program.specs.Examples.{WorkedLinesHold};
 
 use cap_format::long_files_are_none;
+use machine_steps::{dispatches_are_next, runs_are_sound, runs_end};
 
 /// The constants of this crate are the numbers that the definitions fix.
 pub fn constants_are_fixed()
@@ -19,6 +21,17 @@ pub fn constants_are_fixed()
 pub fn runs_end_at_the_least()
     ensures { RunsEndAtTheLeast }
 {}
+
+/// A run is that of the machine of all processes: it ends after as many steps as the definition says, which the last line tells, and with the
+/// status of the machine there.
+pub fn runs_are_exact()
+    ensures { RunsAreExact }
+{
+    runs_are_sound();
+    dispatches_are_next();
+    runs_end();
+    runs_end_at_the_least();
+}
 
 /// Lines that were worked out by hand are those.
 pub fn worked_lines_hold()
