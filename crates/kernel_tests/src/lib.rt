@@ -1,15 +1,17 @@
-//! The kernel over a space of whole copies, step by step: what each step tells of the dispatch, of its work and of its end.
+//! The steps of a kernel on small guests, one by one: what each reports, what it prints, and how the machine stands afterwards.
 //!
-//! The crate offers nothing: it holds the tests of the kernel that need a space.
+//! The crate offers nothing: it holds the tests of the kernel, which need a space and an image.
 #![tactic(auto)]
 
 #[cfg(test)]
-mod boots;
+mod boot;
 #[cfg(test)]
 mod ends;
 #[cfg(test)]
 mod orders;
 #[cfg(test)]
 mod quanta;
+#[cfg(test)]
+mod rows;
 #[cfg(test)]
 mod transfers;
